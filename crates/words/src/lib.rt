@@ -1,0 +1,20 @@
+//! Bits and bytes by position, highest bit first: definitions that every step of the chains shares, and their laws.
+ghost use Prim.Native.Nat.{ℕ, _*_, _<_};
+ghost use Rattle.words.specs.Words.{Bits, Bytes, bits, bytes, word};
+ghost use lib.ListN.{length};
+ghost use mathlib.Core.Path.{_≡_};
+
+// Bit `k` of the bytes.
+pub fn bit_at(packed: &[u8], k: usize) -> bool
+    requires { ⌜ k < 8 * length (now packed) ⌝ }
+    ensures { λ r. ⌜ r ≡ bits (word (now (packed .entry))) k ⌝ }
+{
+    (packed[k / 8] >> (7 - k % 8) as u32) % 2 == 1
+}
+
+// Bits and bytes say the same: see the contract.
+pub fn bytes_are_bits()
+    ensures packed { λ _. ⌜ ((u : Bits) (k : ℕ) → bits (bytes u) k ≡ u k) ⌝ }
+    ensures unpacked { λ _. ⌜ ((w : Bytes) (i : ℕ) → w i < 256 → bytes (bits w) i ≡ w i) ⌝ }
+{
+}
