@@ -1,0 +1,2 @@
+pub mod Scrambler
+pub mod Eight
