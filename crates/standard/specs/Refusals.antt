@@ -62,14 +62,11 @@ burst-rows r long = request-rows r ++ row DataLength (ltb (capacity (r .rate) (r
 abbrev pub encode-rows : Request → ℕ → ℕ → List Row
 encode-rows r long room = burst-rows r long ++ row PointCount (not (eqb room (192 * r .symbols))) ∷ []
 
--- the order of an accepted request
-pub record Accepts (r : Request) (o : Order) : Type 0 where
-  pub rate : o .rate ≡ r .rate
-  pub bsid : o .bsid ≡ r .bsid
-  pub uiuc : o .uiuc ≡ r .uiuc
-  pub frame : o .frame ≡ r .frame
-  pub symbols : o .symbols ≡ r .symbols
+-- the request that an order was
+abbrev pub asked : Order → Request
+asked o = record { rate = o .rate; bsid = o .bsid; uiuc = o .uiuc; frame = o .frame; symbols = o .symbols }
 
+-- an order is made of the request as it stands, and of none that is refused
 abbrev pub Accepted : Request → Result Order Refusal → Type 0
-Accepted r (Ok o) = (first (request-rows r) ≡ None) × Accepts r o
+Accepted r (Ok o) = (first (request-rows r) ≡ None) × (asked o ≡ r)
 Accepted r (Err e) = first (request-rows r) ≡ Some e

@@ -1,5 +1,5 @@
 ghost use Prim.Native.Nat.{_≤_};
-ghost use Rattle.standard.specs.Profiles.{profile as profiled};
+ghost use Rattle.standard.specs.Profiles.{Fitting, profile as profiled};
 ghost use Rattle.standard.specs.Refusals.{Accepted, capacity as capable};
 ghost use mathlib.Core.Path.{_≡_};
 use crate::order::Order;
@@ -32,7 +32,8 @@ impl Order {
     }
 
     pub fn profile(self) -> Profile
-        ensures { λ r. ⌜ r ≡ profiled (self .rate) ⌝ }
+        ensures value { λ r. ⌜ r ≡ profiled (self .rate) ⌝ }
+        ensures fits { λ r. ⌜ Fitting r ⌝ }
     {
         profile_of(self.rate)
     }
