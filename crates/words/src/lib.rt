@@ -1,6 +1,6 @@
 //! Bits and bytes by position, highest bit first: definitions that every step of the chains shares, and their laws.
 ghost use Prim.Native.Nat.{ℕ, _*_, _<_};
-ghost use Rattle.words.specs.Words.{Bits, Bytes, bits, bytes, word};
+ghost use Rattle.words.specs.Words.{Bits, Bytes, bits, bytes, digit as digited, word};
 ghost use lib.ListN.{length};
 ghost use mathlib.Core.Path.{_≡_};
 
@@ -10,6 +10,14 @@ pub fn bit_at(packed: &[u8], k: usize) -> bool
     ensures { λ r. ⌜ r ≡ bits (word (now (packed .entry))) k ⌝ }
 {
     (packed[k / 8] >> (7 - k % 8) as u32) % 2 == 1
+}
+
+// A bit as a number.
+pub fn digit(b: bool) -> u8
+    ensures value { λ r. ⌜ r ≡ digited b ⌝ }
+    ensures below { λ r. ⌜ r < 2 ⌝ }
+{
+    if b { 1 } else { 0 }
 }
 
 // Bits and bytes say the same: see the contract.
