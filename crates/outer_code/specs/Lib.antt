@@ -1,0 +1,3 @@
+pub mod Outer
+pub mod Parity
+pub mod Blocks
