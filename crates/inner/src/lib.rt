@@ -17,3 +17,20 @@ fn outputs(window: u16) -> (u8, u8)
     let y = window ^ (window >> 2) ^ (window >> 3) ^ (window >> 5) ^ (window >> 6);
     ((x % 256) as u8, (y % 256) as u8)
 }
+
+// X and Y at every place of the bytes, as bytes again.
+fn convolve(bytes: &[u8], count: usize, xs: &mut [u8], ys: &mut [u8])
+    requires given { ⌜ count ≤ length (now bytes) ⌝ }
+    requires x_room { ⌜ count ≤ length (now xs) ⌝ }
+    requires y_room { ⌜ count ≤ length (now ys) ⌝ }
+    ensures x { λ _. ⌜ ((k : ℕ) → k < 8 * count → bits (word (now (xs .exit))) k ≡ x-output (bits (word (now (bytes .entry)))) k) ⌝ }
+    ensures y { λ _. ⌜ ((k : ℕ) → k < 8 * count → bits (word (now (ys .exit))) k ≡ y-output (bits (word (now (bytes .entry)))) k) ⌝ }
+{
+    let mut window: u16 = 0;
+    for i in 0..count {
+        window = (window % 64) * 256 + bytes[i] as u16;
+        let (x, y) = outputs(window);
+        xs[i] = x;
+        ys[i] = y;
+    }
+}
