@@ -1,0 +1,36 @@
+//! The encoder of the inner code, for a whole burst.
+ghost use Prim.Native.Nat.{ℕ, _+_, _*_, _<_, _≤_};
+ghost use Rattle.inner_code.specs.Inner.{coded as codeword, x as x-output, y as y-output};
+ghost use Rattle.inner.specs.Outputs.{bit, named, offset as offset-of, x-in, y-in};
+ghost use Rattle.standard.specs.Profiles.{period as periodic, punctured};
+ghost use Rattle.words.specs.Words.{bits, word};
+ghost use lib.ListN.{getD, length};
+ghost use mathlib.Core.Bool.{false};
+ghost use mathlib.Core.Path.{_≡_};
+
+// X and Y at eight places at once. The window holds their eight input bits and the six before, the newest lowest.
+fn outputs(window: u16) -> (u8, u8)
+    ensures x { λ r. ⌜ ((b : ℕ) → b < 8 → bit (r .0) b ≡ x-in window b) ⌝ }
+    ensures y { λ r. ⌜ ((b : ℕ) → b < 8 → bit (r .1) b ≡ y-in window b) ⌝ }
+{
+    let x = window ^ (window >> 1) ^ (window >> 2) ^ (window >> 3) ^ (window >> 6);
+    let y = window ^ (window >> 2) ^ (window >> 3) ^ (window >> 5) ^ (window >> 6);
+    ((x % 256) as u8, (y % 256) as u8)
+}
+
+// X and Y at every place of the bytes, as bytes again.
+fn convolve(bytes: &[u8], count: usize, xs: &mut [u8], ys: &mut [u8])
+    requires given { ⌜ count ≤ length (now bytes) ⌝ }
+    requires x_room { ⌜ count ≤ length (now xs) ⌝ }
+    requires y_room { ⌜ count ≤ length (now ys) ⌝ }
+    ensures x { λ _. ⌜ ((k : ℕ) → k < 8 * count → bits (word (now (xs .exit))) k ≡ x-output (bits (word (now (bytes .entry)))) k) ⌝ }
+    ensures y { λ _. ⌜ ((k : ℕ) → k < 8 * count → bits (word (now (ys .exit))) k ≡ y-output (bits (word (now (bytes .entry)))) k) ⌝ }
+{
+    let mut window: u16 = 0;
+    for i in 0..count {
+        window = (window % 64) * 256 + bytes[i] as u16;
+        let (x, y) = outputs(window);
+        xs[i] = x;
+        ys[i] = y;
+    }
+}
