@@ -8,7 +8,7 @@ use native.Mathlib.Nat.{mul-add-div, div-eq-of-lt, mod-lt, mul-add-mod-self-left
 use lib.Dec.{lit<}
 use Rattle.standard.specs.Profiles.{Modulation}
 use Rattle.interleaver.specs.Interleaver.{size, turn, spread, turned, place, unturned, gathered, source}
-use Rattle.interleaver.proofs.Turn.{group, row, there-back, back-there}
+use Rattle.interleaver.proofs.Turning.{group, row, there-back, back-there}
 
 -- c is h groups of s bits
 pub record Parts (c : ℕ) : Type 0 where
@@ -63,7 +63,7 @@ module _ (g c : ℕ) (p : Parts c) (hg : 0 < g) where
   row-parts : g * c ≡ turn c * (p .halves * g)
   row-parts = ap (λ (x : ℕ). g * x) (p .whole) ∙ mul-comm g (turn c * p .halves) ∙ mul-assoc (turn c) (p .halves) g
 
-  size-parts : size g c ≡ turn c * (12 * (p .halves * g))
+  pub size-parts : size g c ≡ turn c * (12 * (p .halves * g))
   size-parts = let e = row-parts in let f = size-rows g c in omega arith
 
   c-pos : 0 < c
