@@ -51,3 +51,20 @@ fn spread(outputs: &[u8], place: usize, period: usize, index: usize, periods: us
         coded[(period + 1) * q + index] = bit_at(outputs, period * q + place);
     }
 }
+
+// Where an entry of the puncturing table finds its bit: which outputs, and the place in the period.
+fn source<'a>(entry: Coded, xs: &'a [u8], ys: &'a [u8]) -> (&'a [u8], usize)
+    requires alike { ⌜ length (now xs) ≡ length (now ys) ⌝ }
+    ensures place { λ r. ⌜ r .1 ≡ offset-of entry ⌝ }
+    ensures alike { λ r. ⌜ length (now (r .0)) ≡ length (now (xs .entry)) ⌝ }
+    ensures named { λ r. ⌜ ((k : ℕ) → bits (word (now (r .0))) (k + r .1) ≡ named (bits (word (now (xs .entry)))) (bits (word (now (ys .entry)))) k entry) ⌝ }
+{
+    match entry {
+        Coded::X1 => (xs, 0),
+        Coded::Y1 => (ys, 0),
+        Coded::Y2 => (ys, 1),
+        Coded::X3 => (xs, 2),
+        Coded::Y4 => (ys, 3),
+        Coded::X5 => (xs, 4),
+    }
+}
