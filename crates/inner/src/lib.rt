@@ -7,6 +7,9 @@ ghost use Rattle.words.specs.Words.{bits, word};
 ghost use lib.ListN.{getD, length};
 ghost use mathlib.Core.Bool.{false};
 ghost use mathlib.Core.Path.{_≡_};
+use standard::profile::Coded;
+use standard::profile::InnerRate;
+use words::bit_at;
 
 // X and Y at eight places at once. The window holds their eight input bits and the six before, the newest lowest.
 fn outputs(window: u16) -> (u8, u8)
@@ -32,5 +35,36 @@ fn convolve(bytes: &[u8], count: usize, xs: &mut [u8], ys: &mut [u8])
         let (x, y) = outputs(window);
         xs[i] = x;
         ys[i] = y;
+    }
+}
+
+// One coded bit of every period: the output at `place` of its inputs is bit `index` of its coded bits.
+fn spread(outputs: &[u8], place: usize, period: usize, index: usize, periods: usize, coded: &mut [bool])
+    requires input { ⌜ place < period ⌝ }
+    requires output { ⌜ index ≤ period ⌝ }
+    requires held { ⌜ period * periods ≤ 8 * length (now outputs) ⌝ }
+    requires room { ⌜ (period + 1) * periods ≤ length (now coded) ⌝ }
+    ensures spread { λ _. ⌜ ((q : ℕ) → q < periods → getD (now (coded .exit)) ((period + 1) * q + index) false ≡ bits (word (now (outputs .entry))) (period * q + place)) ⌝ }
+    ensures rest { λ _. ⌜ ((j : ℕ) → ((q : ℕ) → q < periods → j ≡ (period + 1) * q + index → ⊥) → getD (now (coded .exit)) j false ≡ getD (now (coded .entry)) j false) ⌝ }
+{
+    for q in 0..periods {
+        coded[(period + 1) * q + index] = bit_at(outputs, period * q + place);
+    }
+}
+
+// Where an entry of the puncturing table finds its bit: which outputs, and the place in the period.
+fn source<'a>(entry: Coded, xs: &'a [u8], ys: &'a [u8]) -> (&'a [u8], usize)
+    requires alike { ⌜ length (now xs) ≡ length (now ys) ⌝ }
+    ensures place { λ r. ⌜ r .1 ≡ offset-of entry ⌝ }
+    ensures alike { λ r. ⌜ length (now (r .0)) ≡ length (now (xs .entry)) ⌝ }
+    ensures named { λ r. ⌜ ((k : ℕ) → bits (word (now (r .0))) (k + r .1) ≡ named (bits (word (now (xs .entry)))) (bits (word (now (ys .entry)))) k entry) ⌝ }
+{
+    match entry {
+        Coded::X1 => (xs, 0),
+        Coded::Y1 => (ys, 0),
+        Coded::Y2 => (ys, 1),
+        Coded::X3 => (xs, 2),
+        Coded::Y4 => (ys, 3),
+        Coded::X5 => (xs, 4),
     }
 }
