@@ -1,4 +1,4 @@
-ghost use Prim.Native.Nat.{ℕ, _<_, _≤_};
+ghost use Prim.Native.Nat.{ℕ};
 ghost use Rattle.coder.specs.Cases.{Cases};
 ghost use Rattle.coder.specs.Sending.{Lawful};
 ghost use Rattle.standard.specs.Refusals.{first, request-rows};
@@ -6,11 +6,10 @@ ghost use Rattle.standard.specs.declared.order.Request.{Request};
 ghost use Rattle.std.specs.declared.option.Option.the-variants.{None};
 ghost use mathlib.Core.List.{List};
 ghost use mathlib.Core.Path.{_≡_};
-ghost use lib.ListN.{getD};
 
 // What holds of every burst of an accepted request: see the contract.
 pub fn bursts_are_lawful()
-    ensures { λ _. ⌜ ((r : Request) (d : List ℕ) → ((k : ℕ) → getD d k 0 < 256) → first (request-rows r) ≡ None → Lawful r d) ⌝ }
+    ensures { λ _. ⌜ ((r : Request) (d : List ℕ) → first (request-rows r) ≡ None → Lawful r d) ⌝ }
 {
 }
 
