@@ -1,8 +1,8 @@
 -- The division by the generator, one byte of the message a time.
 -- Assumes nothing.
-use mathlib.Core.Path.{_≡_, refl, sym, _∙_, ap, ap₂}
+use mathlib.Core.Path.{_≡_, sym, _∙_, ap, ap₂}
 use mathlib.Core.List.{List}
-use Prim.Native.Nat.{ℕ, suc, _+_, _<_, _≤_}
+use Prim.Native.Nat.{ℕ, suc, _+_, _<_}
 use native.Mathlib.Omega.{arith}
 use native.Mathlib.Numerals.{add-one}
 use lib.Bits.{bitXor}
@@ -46,14 +46,14 @@ module _ (old new : List ℕ) (byte : ℕ) (lo : length old ≡ 16) (ln : length
       → ((k : ℕ) → k < 16 → getD new k 0 ≡ getD old (suc k) 0 ⊕ (feedback ⊗ getD generator k 0)) → new ≡ next old byte
   stepped feedback is at =
       ext-getD 0 new (next old byte) (ln ∙ sym (length-next old byte lo))
-        (λ k l. (let h : k < 16 = omega arith in
-          at k h ∙ ap (λ (x : ℕ). getD old (suc k) 0 ⊕ (x ⊗ getD generator k 0)) is ∙ sym (next-at old byte k lo h)))
+      (λ k l. (let h : k < 16 = omega arith in
+      at k h ∙ ap (λ (x : ℕ). getD old (suc k) 0 ⊕ (x ⊗ getD generator k 0)) is ∙ sym (next-at old byte k lo h)))
 
   pub step-moved : bitXor byte (getD old 0 0) ≡ 0 → ((k : ℕ) → k < 16 → getD new k 0 ≡ moved old k) → new ≡ next old byte
   unfolding _⊕_
   step-moved none at =
       stepped 0 (sym none)
-        (λ k h. at k h ∙ sym (ap (λ (x : ℕ). getD old (suc k) 0 ⊕ x) (zero-mul (getD generator k 0)) ∙ add-zero (getD old (suc k) 0)))
+      (λ k h. at k h ∙ sym (ap (λ (x : ℕ). getD old (suc k) 0 ⊕ x) (zero-mul (getD generator k 0)) ∙ add-zero (getD old (suc k) 0)))
 
   pub step-added : (e : ℕ) → gexp e ≡ bitXor byte (getD old 0 0) → ((k : ℕ) → k < 16 → getD new k 0 ≡ added e old k) → new ≡ next old byte
   unfolding _⊕_

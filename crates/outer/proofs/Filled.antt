@@ -23,10 +23,12 @@ filled-start f first old =
 pub filled-more : (f : ℕ → ℕ) (first last v : ℕ) (old new : List ℕ) → Filled f first last old new → first ≤ last → last < length old → v ≡ f last
     → Filled f first (last + 1) old (set new last v)
 filled-more f first last v old new filled ordered within is =
-    record { long = length-set new last v ∙ filled .long
-           ; inside = λ k l h. at k l h (ℕ-discrete k last)
-           ; before = λ k h. other k (omega arith) ∙ filled .before k h
-           ; behind = λ k h. other k (omega arith) ∙ filled .behind k (omega arith) }
+    record {
+      long = length-set new last v ∙ filled .long;
+      inside = λ k l h. at k l h (ℕ-discrete k last);
+      before = λ k h. other k (omega arith) ∙ filled .before k h;
+      behind = λ k h. other k (omega arith) ∙ filled .behind k (omega arith);
+    }
   where
     other : (k : ℕ) → k ≢ last → getD (set new last v) k 0 ≡ getD new k 0
     other k ne = getD-set-other new last k v 0 ne
@@ -47,4 +49,4 @@ pub filled-next : (f : ℕ → ℕ) (at k v : ℕ) (old new : List ℕ) → Fill
     → Filled f at (at + (k + 1)) old (set new (at + k) v)
 filled-next f at k v old new filled within is =
     subst (λ (m : ℕ). Filled f at m old (set new (at + k) v)) (let e : at + k + 1 ≡ at + (k + 1) = omega arith in e)
-      (filled-more f at (at + k) v old new filled (omega arith) within is)
+    (filled-more f at (at + k) v old new filled (omega arith) within is)

@@ -7,7 +7,6 @@ ghost use Rattle.outer_code.specs.Parity.{generator, next, parity-of};
 ghost use Rattle.words.specs.Words.{part, word};
 ghost use lib.ListN.{getD, length};
 ghost use mathlib.Core.Path.{_≡_};
-
 use field::log;
 use field::power;
 

@@ -1,4 +1,4 @@
-use Prim.Native.Nat.{ℕ, _+_, _-_}
+use Prim.Native.Nat.{_+_, _-_}
 use lib.ListN.{getD}
 use Rattle.outer.proofs.Filled.{Filled}
 use Rattle.outer.proofs.copy.Given as given

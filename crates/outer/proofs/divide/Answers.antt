@@ -8,4 +8,4 @@ returns-then-feedback-eq0 c =
 pub returns-else-feedback-eq0 : need.returns-else-feedback-eq0
 returns-else-feedback-eq0 c =
     step-added (c .args .rest .now) (c .shift-and-add .last .rest) (c .args .byte) (c .told-rest) (c .shift-and-add .array-long)
-      (c .log .result) (c .log .ensures .exponent) (c .shift-and-add .ensures)
+    (c .log .result) (c .log .ensures .exponent) (c .shift-and-add .ensures)

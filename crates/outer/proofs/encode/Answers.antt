@@ -17,13 +17,15 @@ encode-block-requires c κs =
 pub loop-b-again : need.loop-b-again
 loop-b-again c =
     blocks-more (c .args .size) (c .args .limit) (c .pre .some) (c .pre .few) (word (c .args .message .now)) (c .loop-b .b) (c .loop-b .coded) (c .encode-block .last .coded)
-      (c .loop-b .inv) (c .encode-block .ensures .coded) (c .encode-block .ensures .kept)
+    (c .loop-b .inv) (c .encode-block .ensures .coded) (c .encode-block .ensures .kept)
 
 pub returns : need.returns
 returns c =
     let w : Bytes = word (c .args .message .now) in
     let bytes : (i : ℕ) → w i < 256 = search needs in
     let so = subst (λ (b : ℕ). (i : ℕ) → i < b * (2 * c .args .limit + c .args .size) → getD (c .loop-b .coded) i 0 ≡ blocks (c .args .size) (c .args .limit) w i)
-               (let e : c .loop-b .b ≡ c .args .count = omega arith in e) (c .loop-b .inv) in
-    record { coded = so
-           ; words = written-outer (c .args .size) (c .args .limit) (c .pre .some) (c .pre .few) w (c .pre .short) bytes (c .args .count) (c .loop-b .coded) so }
+    (let e : c .loop-b .b ≡ c .args .count = omega arith in e) (c .loop-b .inv) in
+    record {
+      coded = so;
+      words = written-outer (c .args .size) (c .args .limit) (c .pre .some) (c .pre .few) w (c .pre .short) bytes (c .args .count) (c .loop-b .coded) so;
+    }
