@@ -1,13 +1,13 @@
 -- The laws of the field.
 -- Assumes nothing.
-use mathlib.Core.Path.{_≡_, refl, sym, _∙_, ap, ap₂, subst}
-use mathlib.Core.Bool.{Bool, true, false}
+use mathlib.Core.Path.{_≡_, refl, sym, _∙_, ap, ap₂}
+use mathlib.Core.Bool.{Bool}
 use mathlib.Core.Logic.{_⊎_, inl, inr}
-use Prim.Native.Nat.{ℕ, zero, suc, _+_, _-_, _*_, _/_, _%_, _^_, _<_, _≤_}
+use Prim.Native.Nat.{ℕ, zero, suc, _+_, _-_, _*_, _/_, _%_, _<_, _≤_}
 use native.Mathlib.Omega.{arith}
-use native.Mathlib.Nat.{not-suc-le-zero, eq-or-lt-of-le, le-of-suc-le-suc}
+use native.Mathlib.Nat.{not-suc-le-zero}
 use lib.Dec.{T, eqb, eqb→eq, ltb, ltb→lt}
-use lib.Bits.{bitXor, differ, xor-step, xor-assoc, xor-comm, xor-self, xor-zero-r, xor-mod, xor-shr, xor-lt}
+use lib.Bits.{bitXor, xor-step, xor-assoc, xor-comm, xor-self, xor-zero-r, xor-mod, xor-shr, xor-lt}
 use Rattle.field.specs.Field.{_⊕_, _⊗_, xtime, multiples, xtimes, gexp}
 use Rattle.field.proofs.Tests.{all, all-at}
 use Rattle.field.proofs.Tables.{powers, place, logarithm}
@@ -44,9 +44,9 @@ pub add-swap : (a b c d : ℕ) → (a ⊕ b) ⊕ (c ⊕ d) ≡ (a ⊕ c) ⊕ (b 
 add-swap a b c d = simp (add-assoc, add-comm, add-left-comm)
 
 -- ---- times x
-dbl : (x y : ℕ) → 2 * (x ⊕ y) ≡ (2 * x) ⊕ (2 * y)
+double-add : (x y : ℕ) → 2 * (x ⊕ y) ≡ (2 * x) ⊕ (2 * y)
 unfolding _⊕_
-dbl x y =
+double-add x y =
     let ex : 2 * x / 2 ≡ x = omega arith in
     let ey : 2 * y / 2 ≡ y = omega arith in
     let fx : 2 * x % 2 ≡ 0 = omega arith in
@@ -54,13 +54,13 @@ dbl x y =
     let s : bitXor (2 * x) (2 * y) ≡ bitXor x y * 2 + 0 = xor-step (2 * x) (2 * y) ∙ rw (ex, ey, fx, fy) in
     omega arith
 
-bits29 : (u v : ℕ) → u < 2 → v < 2 → 29 * (u ⊕ v) ≡ (29 * u) ⊕ (29 * v)
+reduce-add : (u v : ℕ) → u < 2 → v < 2 → 29 * (u ⊕ v) ≡ (29 * u) ⊕ (29 * v)
 unfolding _⊕_
-bits29 zero v hu hv = refl
-bits29 (suc zero) zero hu hv = refl
-bits29 (suc zero) (suc zero) hu hv = refl
-bits29 (suc zero) (suc (suc v)) hu hv = absurd (omega arith)
-bits29 (suc (suc u)) v hu hv = absurd (omega arith)
+reduce-add zero v hu hv = refl
+reduce-add (suc zero) zero hu hv = refl
+reduce-add (suc zero) (suc zero) hu hv = refl
+reduce-add (suc zero) (suc (suc v)) hu hv = absurd (omega arith)
+reduce-add (suc (suc u)) v hu hv = absurd (omega arith)
 
 bit-lt : (a : ℕ) → a % 2 < 2
 bit-lt a = omega arith
@@ -69,9 +69,9 @@ pub xtime-add : (a b : ℕ) → xtime (a ⊕ b) ≡ xtime a ⊕ xtime b
 unfolding xtime _⊕_
 xtime-add a b =
     ap₂ (λ (u v : ℕ). bitXor u v)
-      (ap (λ (x : ℕ). 2 * x) (xor-mod a b 7) ∙ dbl (a % 128) (b % 128))
-      (ap (λ (x : ℕ). 29 * (x % 2)) (xor-shr a b 7) ∙ ap (λ (x : ℕ). 29 * x) (xor-mod (a / 128) (b / 128) 1)
-        ∙ bits29 (a / 128 % 2) (b / 128 % 2) (bit-lt (a / 128)) (bit-lt (b / 128)))
+    (ap (λ (x : ℕ). 2 * x) (xor-mod a b 7) ∙ double-add (a % 128) (b % 128))
+    (ap (λ (x : ℕ). 29 * (x % 2)) (xor-shr a b 7) ∙ ap (λ (x : ℕ). 29 * x) (xor-mod (a / 128) (b / 128) 1)
+    ∙ reduce-add (a / 128 % 2) (b / 128 % 2) (bit-lt (a / 128)) (bit-lt (b / 128)))
     ∙ add-swap (2 * (a % 128)) (2 * (b % 128)) (29 * (a / 128 % 2)) (29 * (b / 128 % 2))
 
 pub xtime-lt : (a : ℕ) → xtime a < 256
@@ -94,7 +94,7 @@ unfolding multiples _⊕_
 multiples-add zero a b c = refl
 multiples-add (suc n) a b c =
     ap₂ (λ (u v : ℕ). bitXor u v) (pick-add a b (c % 2) (bit-lt c))
-      (ap (λ (x : ℕ). multiples n x (c / 2)) (xtime-add a b) ∙ multiples-add n (xtime a) (xtime b) (c / 2))
+    (ap (λ (x : ℕ). multiples n x (c / 2)) (xtime-add a b) ∙ multiples-add n (xtime a) (xtime b) (c / 2))
     ∙ add-swap (a * (c % 2)) (b * (c % 2)) (multiples n (xtime a) (c / 2)) (multiples n (xtime b) (c / 2))
 
 pick-xtime : (a v : ℕ) → v < 2 → xtime a * v ≡ xtime (a * v)
@@ -186,10 +186,10 @@ exp-multiples j k = multiples-xtimes j 1 (gexp k) ∙ ap (xtimes j) (one-byte (g
 Power : ℕ → Type 0
 Power x = (x ≡ 0) ⊎ ((k : ℕ) × (x ≡ gexp k))
 
-power : (x : ℕ) → x < 256 → Power x
+is-power : (x : ℕ) → x < 256 → Power x
 unfolding Power
-power zero h = inl refl
-power (suc x) h = inr (logarithm (suc x), sym (exp-log x (omega arith)))
+is-power zero h = inl refl
+is-power (suc x) h = inr (logarithm (suc x), sym (exp-log x (omega arith)))
 
 zero-multiples : (n c : ℕ) → multiples n 0 c ≡ 0
 unfolding multiples
@@ -217,23 +217,23 @@ assoc-bytes x y z (inr p) (inr q) (inl r) =
     rw r (multiples-zero 8 (multiples 8 x y) ∙ sym (ap (λ (u : ℕ). multiples 8 x u) (multiples-zero 8 y) ∙ multiples-zero 8 x))
 assoc-bytes x y z (inr p) (inr q) (inr r) =
     rw (p .1, q .1, r .1)
-      (ap (λ (u : ℕ). multiples 8 u (gexp (r .0))) (exp-multiples (p .0) (q .0)) ∙ exp-multiples (p .0 + q .0) (r .0)
-        ∙ ap gexp (native.Mathlib.Nat.add-assoc (p .0) (q .0) (r .0))
-        ∙ sym (ap (λ (u : ℕ). multiples 8 (gexp (p .0)) u) (exp-multiples (q .0) (r .0)) ∙ exp-multiples (p .0) (q .0 + r .0)))
+    (ap (λ (u : ℕ). multiples 8 u (gexp (r .0))) (exp-multiples (p .0) (q .0)) ∙ exp-multiples (p .0 + q .0) (r .0)
+    ∙ ap gexp (native.Mathlib.Nat.add-assoc (p .0) (q .0) (r .0))
+    ∙ sym (ap (λ (u : ℕ). multiples 8 (gexp (p .0)) u) (exp-multiples (q .0) (r .0)) ∙ exp-multiples (p .0) (q .0 + r .0)))
 
-byte : (a : ℕ) → a % 256 < 256
-byte a = omega arith
+mod-byte : (a : ℕ) → a % 256 < 256
+mod-byte a = omega arith
 
 pub mul-comm : (a b : ℕ) → a ⊗ b ≡ b ⊗ a
 unfolding _⊗_
-mul-comm a b = comm-bytes (a % 256) (b % 256) (power (a % 256) (byte a)) (power (b % 256) (byte b))
+mul-comm a b = comm-bytes (a % 256) (b % 256) (is-power (a % 256) (mod-byte a)) (is-power (b % 256) (mod-byte b))
 
 pub mul-assoc : (a b c : ℕ) → (a ⊗ b) ⊗ c ≡ a ⊗ (b ⊗ c)
 unfolding _⊗_
 mul-assoc a b c =
-    ap (λ (u : ℕ). multiples 8 u (c % 256)) (native.Mathlib.Nat.mod-eq-of-lt (multiples-lt 8 (a % 256) (b % 256) (byte a)))
-    ∙ assoc-bytes (a % 256) (b % 256) (c % 256) (power (a % 256) (byte a)) (power (b % 256) (byte b)) (power (c % 256) (byte c))
-    ∙ sym (ap (λ (u : ℕ). multiples 8 (a % 256) u) (native.Mathlib.Nat.mod-eq-of-lt (multiples-lt 8 (b % 256) (c % 256) (byte b))))
+    ap (λ (u : ℕ). multiples 8 u (c % 256)) (native.Mathlib.Nat.mod-eq-of-lt (multiples-lt 8 (a % 256) (b % 256) (mod-byte a)))
+    ∙ assoc-bytes (a % 256) (b % 256) (c % 256) (is-power (a % 256) (mod-byte a)) (is-power (b % 256) (mod-byte b)) (is-power (c % 256) (mod-byte c))
+    ∙ sym (ap (λ (u : ℕ). multiples 8 (a % 256) u) (native.Mathlib.Nat.mod-eq-of-lt (multiples-lt 8 (b % 256) (c % 256) (mod-byte b))))
 
 pub mul-left-comm : (a b c : ℕ) → a ⊗ (b ⊗ c) ≡ b ⊗ (a ⊗ c)
 mul-left-comm a b c = sym (mul-assoc a b c) ∙ ap (λ x. x ⊗ c) (mul-comm a b) ∙ mul-assoc b a c

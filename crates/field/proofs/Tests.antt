@@ -1,6 +1,6 @@
 -- A test of every number below a bound, decided by computing.
 -- Assumes nothing.
-use mathlib.Core.Path.{_≡_, sym, subst}
+use mathlib.Core.Path.{sym, subst}
 use mathlib.Core.Bool.{Bool, true, false}
 use mathlib.Core.Logic.{inl, inr}
 use Prim.Native.Nat.{ℕ, zero, suc, _<_}
@@ -27,6 +27,7 @@ both-right false b t = absurd t
 pub all-at : (f : ℕ → Bool) (n : ℕ) → T (all f n) → (k : ℕ) → k < n → T (f k)
 all-at f zero t k h = absurd (not-suc-le-zero h)
 all-at f (suc n) t k h =
-    elim (eq-or-lt-of-le (le-of-suc-le-suc h))
-      [ inl e ↦ subst (λ (m : ℕ). T (f m)) (sym e) (both-left (f n) (all f n) t)
-      | inr l ↦ all-at f n (both-right (f n) (all f n) t) k l ]
+    elim (eq-or-lt-of-le (le-of-suc-le-suc h)) [
+      | inl e ↦ subst (λ (m : ℕ). T (f m)) (sym e) (both-left (f n) (all f n) t)
+      | inr l ↦ all-at f n (both-right (f n) (all f n) t) k l
+    ]

@@ -5,11 +5,11 @@ use mathlib.Core.List.{List, [], _∷_, _++_}
 use Prim.Native.Nat.{ℕ, zero, suc, _+_, _-_, _*_, _/_, _%_, _<_, _≤_}
 use native.Mathlib.Omega.{arith}
 use native.Mathlib.Decide.{decLe}
-use native.Mathlib.Nat.{mul-add-div, mul-add-mod-self-left, div-eq-of-lt, mod-eq-of-lt, mod-lt, mul-le-mul-left, mul-comm, div-lt-iff-lt-mul, add-zero}
-use lib.ListN.{length, getD, take, replicate}
-use Rattle.std.proofs.shelf.Lists.{length-append, length-take-le, getD-append-left, getD-append-right, getD-take, getD-past, ext-getD}
+use native.Mathlib.Nat.{mul-add-div, mul-add-mod-self-left, div-eq-of-lt, mod-eq-of-lt, mul-le-mul-left, mul-comm, div-lt-iff-lt-mul, add-zero}
+use lib.ListN.{length, getD, take}
+use Rattle.std.proofs.shelf.Lists.{length-append, length-take-le, getD-append-left, getD-append-right, getD-take, ext-getD}
 use Rattle.field.specs.Field.{gexp}
-use Rattle.words.specs.Words.{Bytes, word, listed, part}
+use Rattle.words.specs.Words.{Bytes, listed, part}
 use Rattle.words.proofs.Bridge.{length-listed, getD-listed, listed-same}
 use Rattle.outer_code.specs.Outer.{Outer, AreBytes}
 use Rattle.outer_code.specs.Parity.{parity-of, next}
@@ -54,17 +54,24 @@ module _ (limit : ℕ) (few : limit ≤ 8) (d : List ℕ) where
 
   pub block-bytes : AreBytes d → AreBytes (block-of limit d)
   block-bytes h k =
-      elim (decLe (2 * limit) k)
-        [ yes l ↦ subst (λ (m : ℕ). m < 256) (sym (block-message (k - 2 * limit)) ∙ ap (λ (m : ℕ). getD (block-of limit d) m 0) (let e : 2 * limit + (k - 2 * limit) ≡ k = omega arith in e)) (h (k - 2 * limit))
-        | no l ↦ subst (λ (m : ℕ). m < 256) (sym (block-parity k (omega arith))) (parity-bytes d k) ]
+      elim (decLe (2 * limit) k) [
+        | yes l ↦ subst (λ (m : ℕ). m < 256) (sym (block-message (k - 2 * limit)) ∙ ap (λ (m : ℕ). getD (block-of limit d) m 0) (let e : 2 * limit + (k - 2 * limit) ≡ k = omega arith in e)) (h (k - 2 * limit))
+        | no l ↦ subst (λ (m : ℕ). m < 256) (sym (block-parity k (omega arith))) (parity-bytes d k)
+      ]
 
   pub outer-block : (size : ℕ) → size ≤ 239 → length d ≡ size → AreBytes d → Outer size limit (block-of limit d)
   unfolding block-of
   outer-block size hs ld bd =
-      record { message = d; parity = parity-of d; message-length = ld; message-bytes = bd
-             ; parity-length = length-parity d; parity-bytes = parity-bytes d
-             ; codeword = λ j h. evaluated-zeros (gexp j) (239 - size) (d ++ parity-of d) ∙ encoded d j h
-             ; block = refl }
+      record {
+        message = d;
+        parity = parity-of d;
+        message-length = ld;
+        message-bytes = bd;
+        parity-length = length-parity d;
+        parity-bytes = parity-bytes d;
+        codeword = λ j h. evaluated-zeros (gexp j) (239 - size) (d ++ parity-of d) ∙ encoded d j h;
+        block = refl;
+      }
 
 -- ---- the blocks of a burst
 -- what a block of a burst holds before it is coded
@@ -80,14 +87,14 @@ module _ (size limit : ℕ) (some : 0 < size) where
   unfolding blocks
   blocks-at w b t h =
       ap₂ (λ (q r : ℕ). getD (block-of limit (message-of size q w)) r 0)
-        (mul-add-div {m = N} (omega arith) b t ∙ ap (λ (m : ℕ). b + m) (div-eq-of-lt h) ∙ add-zero b)
-        (mul-add-mod-self-left N b t ∙ mod-eq-of-lt h)
+      (mul-add-div {m = N} (omega arith) b t ∙ ap (λ (m : ℕ). b + m) (div-eq-of-lt h) ∙ add-zero b)
+      (mul-add-mod-self-left N b t ∙ mod-eq-of-lt h)
 
   -- a block as a list
   pub blocks-part : limit ≤ 8 → (w : Bytes) (b : ℕ) → part (2 * limit + size) ((2 * limit + size) * b) (blocks size limit w) ≡ block-of limit (message-of size b w)
   blocks-part few w b =
       ext-getD 0 (part N (N * b) (blocks size limit w)) (block-of limit (message-of size b w)) (long ∙ sym whole)
-        (λ k h. (let l : k < N = subst (λ (m : ℕ). k < m) long h in getD-listed N (λ i. blocks size limit w (N * b + i)) k l ∙ blocks-at w b k l))
+      (λ k h. (let l : k < N = subst (λ (m : ℕ). k < m) long h in getD-listed N (λ i. blocks size limit w (N * b + i)) k l ∙ blocks-at w b k l))
     where
       long : length (part N (N * b) (blocks size limit w)) ≡ N
       long = length-listed N (λ i. blocks size limit w (N * b + i))
@@ -106,7 +113,7 @@ module _ (size limit : ℕ) (some : 0 < size) where
   pub blocks-outer : size ≤ 239 → limit ≤ 8 → (w : Bytes) → ((i : ℕ) → w i < 256) → (b : ℕ) → Outer size limit (part (2 * limit + size) ((2 * limit + size) * b) (blocks size limit w))
   blocks-outer hs few w bytes b =
       subst (Outer size limit) (sym (blocks-part few w b))
-        (outer-block limit few (message-of size b w) size hs (length-listed size (λ k. w (size * b + k))) (listed-bytes size (λ k. w (size * b + k)) (λ k. bytes (size * b + k))))
+      (outer-block limit few (message-of size b w) size hs (length-listed size (λ k. w (size * b + k))) (listed-bytes size (λ k. w (size * b + k)) (λ k. bytes (size * b + k))))
 
   pub blocks-lt : limit ≤ 8 → (w : Bytes) → ((i : ℕ) → w i < 256) → (i : ℕ) → blocks size limit w i < 256
   unfolding blocks
@@ -118,7 +125,7 @@ module _ (size limit : ℕ) (some : 0 < size) where
   unfolding blocks
   blocks-same n v w same i h =
       ap (λ (d : List ℕ). getD (block-of limit d) (i % N) 0)
-        (listed-same size (λ k. v (size * (i / N) + k)) (λ k. w (size * (i / N) + k)) (λ k l. same (size * (i / N) + k) (within k l)))
+      (listed-same size (λ k. v (size * (i / N) + k)) (λ k. w (size * (i / N) + k)) (λ k l. same (size * (i / N) + k) (within k l)))
     where
       within : (k : ℕ) → k < size → size * (i / N) + k < n * size
       within k l =

@@ -3,7 +3,7 @@
 use mathlib.Core.Path.{_≡_, refl, sym, _∙_, ap, ap₂, subst}
 use mathlib.Core.Bool.{Bool}
 use mathlib.Core.List.{List, [], _∷_, _++_}
-use Prim.Native.Nat.{ℕ, zero, suc, _+_, _<_}
+use Prim.Native.Nat.{ℕ, zero, suc, _<_}
 use native.Mathlib.Omega.{arith}
 use native.Mathlib.Nat.{not-suc-le-zero, suc-inj}
 use lib.Dec.{T, eqb, eqb→eq}
@@ -27,32 +27,32 @@ generator-root : (j : ℕ) → j < 16 → evaluated (gexp j) generator ≡ gpow 
 unfolding generator-test
 generator-root j h = eqb→eq (evaluated (gexp j) generator) (gpow (gexp j) 16) (all-at generator-test 16 generator-tested j h)
 
-length-mix : (fb : ℕ) (rs gs : List ℕ) → length (mix fb rs gs) ≡ length gs
+length-mix : (feedback : ℕ) (rs gs : List ℕ) → length (mix feedback rs gs) ≡ length gs
 unfolding mix
-length-mix fb rs [] = refl
-length-mix fb [] (g ∷ gs) = ap suc (length-mix fb [] gs)
-length-mix fb (r ∷ rs) (g ∷ gs) = ap suc (length-mix fb rs gs)
+length-mix feedback rs [] = refl
+length-mix feedback [] (g ∷ gs) = ap suc (length-mix feedback [] gs)
+length-mix feedback (r ∷ rs) (g ∷ gs) = ap suc (length-mix feedback rs gs)
 
 evaluated-lt : (y : ℕ) (cs : List ℕ) → evaluated y cs < 256
 unfolding evaluated
 evaluated-lt y [] = omega arith
 evaluated-lt y (c ∷ cs) = add-lt (c ⊗ gpow y (length cs)) (evaluated y cs) (mul-lt c (gpow y (length cs))) (evaluated-lt y cs)
 
-alg : (y fb r g p q v w : ℕ) → q ≡ y ⊗ p → ((r ⊕ (fb ⊗ g)) ⊗ q) ⊕ ((y ⊗ v) ⊕ (fb ⊗ w)) ≡ (y ⊗ ((r ⊗ p) ⊕ v)) ⊕ (fb ⊗ ((g ⊗ q) ⊕ w))
-alg y fb r g p q v w e =
-    ap (λ (z : ℕ). z ⊕ ((y ⊗ v) ⊕ (fb ⊗ w))) (add-mul r (fb ⊗ g) q) ∙ add-swap (r ⊗ q) ((fb ⊗ g) ⊗ q) (y ⊗ v) (fb ⊗ w)
+mix-step : (y feedback r g p q v w : ℕ) → q ≡ y ⊗ p → ((r ⊕ (feedback ⊗ g)) ⊗ q) ⊕ ((y ⊗ v) ⊕ (feedback ⊗ w)) ≡ (y ⊗ ((r ⊗ p) ⊕ v)) ⊕ (feedback ⊗ ((g ⊗ q) ⊕ w))
+mix-step y feedback r g p q v w e =
+    ap (λ (z : ℕ). z ⊕ ((y ⊗ v) ⊕ (feedback ⊗ w))) (add-mul r (feedback ⊗ g) q) ∙ add-swap (r ⊗ q) ((feedback ⊗ g) ⊗ q) (y ⊗ v) (feedback ⊗ w)
     ∙ ap₂ _⊕_
-        (ap (λ (z : ℕ). z ⊕ (y ⊗ v)) (ap (λ (z : ℕ). r ⊗ z) e ∙ mul-left-comm r y p) ∙ sym (mul-add y (r ⊗ p) v))
-        (ap (λ (z : ℕ). z ⊕ (fb ⊗ w)) (mul-assoc fb g q) ∙ sym (mul-add fb (g ⊗ q) w))
+    (ap (λ (z : ℕ). z ⊕ (y ⊗ v)) (ap (λ (z : ℕ). r ⊗ z) e ∙ mul-left-comm r y p) ∙ sym (mul-add y (r ⊗ p) v))
+    (ap (λ (z : ℕ). z ⊕ (feedback ⊗ w)) (mul-assoc feedback g q) ∙ sym (mul-add feedback (g ⊗ q) w))
 
-evaluated-mix : (y fb : ℕ) (rs gs : List ℕ) → length gs ≡ suc (length rs) → evaluated y (mix fb rs gs) ≡ (y ⊗ evaluated y rs) ⊕ (fb ⊗ evaluated y gs)
+evaluated-mix : (y feedback : ℕ) (rs gs : List ℕ) → length gs ≡ suc (length rs) → evaluated y (mix feedback rs gs) ≡ (y ⊗ evaluated y rs) ⊕ (feedback ⊗ evaluated y gs)
 unfolding mix evaluated
-evaluated-mix y fb rs [] h = absurd (omega arith)
-evaluated-mix y fb [] (g ∷ []) h = simp (add-zero, mul-zero, zero-add, mul-assoc)
-evaluated-mix y fb [] (g ∷ g' ∷ gs) h = absurd (omega arith)
-evaluated-mix y fb (r ∷ rs) (g ∷ gs) h =
-    ap₂ _⊕_ (ap (λ (n : ℕ). (r ⊕ (fb ⊗ g)) ⊗ gpow y n) (length-mix fb rs gs)) (evaluated-mix y fb rs gs (suc-inj h))
-    ∙ alg y fb r g (gpow y (length rs)) (gpow y (length gs)) (evaluated y rs) (evaluated y gs) (ap (gpow y) (suc-inj h) ∙ pow-suc y (length rs))
+evaluated-mix y feedback rs [] h = absurd (omega arith)
+evaluated-mix y feedback [] (g ∷ []) h = simp (add-zero, mul-zero, zero-add, mul-assoc)
+evaluated-mix y feedback [] (g ∷ g' ∷ gs) h = absurd (omega arith)
+evaluated-mix y feedback (r ∷ rs) (g ∷ gs) h =
+    ap₂ _⊕_ (ap (λ (n : ℕ). (r ⊕ (feedback ⊗ g)) ⊗ gpow y n) (length-mix feedback rs gs)) (evaluated-mix y feedback rs gs (suc-inj h))
+    ∙ mix-step y feedback r g (gpow y (length rs)) (gpow y (length gs)) (evaluated y rs) (evaluated y gs) (ap (gpow y) (suc-inj h) ∙ pow-suc y (length rs))
 
 pub evaluated-append : (y : ℕ) (ds p : List ℕ) → evaluated y (ds ++ p) ≡ (evaluated y ds ⊗ gpow y (length p)) ⊕ evaluated y p
 unfolding evaluated
@@ -91,8 +91,8 @@ module _ (y : ℕ) (root : evaluated y generator ≡ gpow y 16) where
       ∙ ap (λ (z : ℕ). (y ⊗ evaluated y rs) ⊕ z) (ap (λ (z : ℕ). (d ⊕ r) ⊗ z) root ∙ add-mul d r (gpow y 16))
       ∙ turn (y ⊗ evaluated y rs) (d ⊗ gpow y 16) (r ⊗ gpow y 16)
       ∙ ap (λ (z : ℕ). z ⊕ (d ⊗ gpow y 16))
-          (ap (λ (z : ℕ). z ⊕ (y ⊗ evaluated y rs)) (ap (λ (z : ℕ). r ⊗ z) (ap (gpow y) (sym h) ∙ pow-suc y (length rs)) ∙ mul-left-comm r y (gpow y (length rs)))
-            ∙ sym (mul-add y (r ⊗ gpow y (length rs)) (evaluated y rs)))
+      (ap (λ (z : ℕ). z ⊕ (y ⊗ evaluated y rs)) (ap (λ (z : ℕ). r ⊗ z) (ap (gpow y) (sym h) ∙ pow-suc y (length rs)) ∙ mul-left-comm r y (gpow y (length rs)))
+      ∙ sym (mul-add y (r ⊗ gpow y (length rs)) (evaluated y rs)))
     where
       turn : (a b c : ℕ) → a ⊕ (b ⊕ c) ≡ (c ⊕ a) ⊕ b
       turn a b c = simp (add-assoc, add-comm, add-left-comm)
@@ -124,9 +124,9 @@ encoded ds j h =
     evaluated-append y ds (rest (replicate 16 0) ds)
     ∙ ap (λ (z : ℕ). (evaluated y ds ⊗ gpow y z) ⊕ evaluated y (rest (replicate 16 0) ds)) (length-rest (replicate 16 0) ds refl)
     ∙ zero-if-same (evaluated y ds ⊗ gpow y 16) (evaluated y (rest (replicate 16 0) ds))
-        (sym (evaluated-rest y root (replicate 16 0) ds refl
-          ∙ ap (λ (z : ℕ). (z ⊗ gpow y (length ds)) ⊕ (evaluated y ds ⊗ gpow y 16)) (evaluated-blank y 16)
-          ∙ ap (λ (z : ℕ). z ⊕ (evaluated y ds ⊗ gpow y 16)) (zero-mul (gpow y (length ds))) ∙ zero-add (evaluated y ds ⊗ gpow y 16)))
+    (sym (evaluated-rest y root (replicate 16 0) ds refl
+    ∙ ap (λ (z : ℕ). (z ⊗ gpow y (length ds)) ⊕ (evaluated y ds ⊗ gpow y 16)) (evaluated-blank y 16)
+    ∙ ap (λ (z : ℕ). z ⊕ (evaluated y ds ⊗ gpow y 16)) (zero-mul (gpow y (length ds))) ∙ zero-add (evaluated y ds ⊗ gpow y 16)))
   where
     y : ℕ
     y = gexp j
@@ -134,13 +134,13 @@ encoded ds j h =
     root : evaluated y generator ≡ gpow y 16
     root = generator-root j h
 
-mix-bytes : (fb : ℕ) (rs gs : List ℕ) → AreBytes rs → (k : ℕ) → getD (mix fb rs gs) k 0 < 256
+mix-bytes : (feedback : ℕ) (rs gs : List ℕ) → AreBytes rs → (k : ℕ) → getD (mix feedback rs gs) k 0 < 256
 unfolding mix
-mix-bytes fb rs [] h k = omega arith
-mix-bytes fb [] (g ∷ gs) h zero = mul-lt fb g
-mix-bytes fb [] (g ∷ gs) h (suc k) = mix-bytes fb [] gs h k
-mix-bytes fb (r ∷ rs) (g ∷ gs) h zero = add-lt r (fb ⊗ g) (h 0) (mul-lt fb g)
-mix-bytes fb (r ∷ rs) (g ∷ gs) h (suc k) = mix-bytes fb rs gs (λ i. h (suc i)) k
+mix-bytes feedback rs [] h k = omega arith
+mix-bytes feedback [] (g ∷ gs) h zero = mul-lt feedback g
+mix-bytes feedback [] (g ∷ gs) h (suc k) = mix-bytes feedback [] gs h k
+mix-bytes feedback (r ∷ rs) (g ∷ gs) h zero = add-lt r (feedback ⊗ g) (h 0) (mul-lt feedback g)
+mix-bytes feedback (r ∷ rs) (g ∷ gs) h (suc k) = mix-bytes feedback rs gs (λ i. h (suc i)) k
 
 pub next-bytes : (r : List ℕ) (d : ℕ) → AreBytes r → AreBytes (next r d)
 unfolding next
@@ -161,13 +161,13 @@ pub parity-bytes : (ds : List ℕ) → AreBytes (parity-of ds)
 unfolding parity-of
 parity-bytes ds = rest-bytes (replicate 16 0) ds (zeros-bytes 16)
 
-mix-at : (fb : ℕ) (rs gs : List ℕ) (i : ℕ) → i < length gs → getD (mix fb rs gs) i 0 ≡ getD rs i 0 ⊕ (fb ⊗ getD gs i 0)
+mix-at : (feedback : ℕ) (rs gs : List ℕ) (i : ℕ) → i < length gs → getD (mix feedback rs gs) i 0 ≡ getD rs i 0 ⊕ (feedback ⊗ getD gs i 0)
 unfolding mix
-mix-at fb rs [] i h = absurd (not-suc-le-zero h)
-mix-at fb [] (g ∷ gs) zero h = sym (zero-add (fb ⊗ g))
-mix-at fb [] (g ∷ gs) (suc i) h = mix-at fb [] gs i (omega arith)
-mix-at fb (r ∷ rs) (g ∷ gs) zero h = refl
-mix-at fb (r ∷ rs) (g ∷ gs) (suc i) h = mix-at fb rs gs i (omega arith)
+mix-at feedback rs [] i h = absurd (not-suc-le-zero h)
+mix-at feedback [] (g ∷ gs) zero h = sym (zero-add (feedback ⊗ g))
+mix-at feedback [] (g ∷ gs) (suc i) h = mix-at feedback [] gs i (omega arith)
+mix-at feedback (r ∷ rs) (g ∷ gs) zero h = refl
+mix-at feedback (r ∷ rs) (g ∷ gs) (suc i) h = mix-at feedback rs gs i (omega arith)
 
 pub next-at : (r : List ℕ) (d i : ℕ) → length r ≡ 16 → i < 16 → getD (next r d) i 0 ≡ getD r (suc i) 0 ⊕ ((d ⊕ getD r 0 0) ⊗ getD generator i 0)
 unfolding next

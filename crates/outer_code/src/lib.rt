@@ -8,5 +8,4 @@ ghost use Rattle.words.specs.Words.{Bytes, part};
 pub fn sent_blocks_are_outer_words()
     ensures { λ _. ⌜ ((size limit : ℕ) → 0 < size → size ≤ 239 → limit ≤ 8 → (w : Bytes) → ((i : ℕ) → w i < 256) → (b : ℕ)
         → Outer size limit (part (2 * limit + size) ((2 * limit + size) * b) (blocks size limit w))) ⌝ }
-{
-}
+{}

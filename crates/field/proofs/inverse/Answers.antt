@@ -1,5 +1,5 @@
-use mathlib.Core.Path.{_≡_, sym, ap₂, _∙_, ap}
-use Prim.Native.Nat.{ℕ, _-_, _≤_}
+use mathlib.Core.Path.{sym, ap₂, _∙_, ap}
+use Prim.Native.Nat.{_-_, _≤_}
 use native.Mathlib.Omega.{arith}
 use native.Mathlib.Nat.{sub-add-cancel}
 use Rattle.field.specs.Field.{_⊗_, gexp}

@@ -1,5 +1,4 @@
-use mathlib.Core.Path.{_≡_, _∙_, ap, sym, subst}
-use native.Mathlib.Omega.{arith}
+use mathlib.Core.Path.{_∙_, ap, sym, subst}
 use borrow.Author.Needs.{needs}
 use Prim.Native.Nat.{ℕ, _<_}
 use Rattle.field.specs.Field.{gexp, xtime}
@@ -12,5 +11,7 @@ unfolding logarithms logarithm place powers xtime
 returns c =
     let byte : c .args .a < 256 = search needs in
     let at = logarithms-at 256 (c .args .a) byte in
-    record { exponent = ap gexp at ∙ exp-of-log (c .args .a) byte (c .pre)
-           ; low = subst (λ (k : ℕ). k < 255) (sym at) (log-lt (c .args .a) byte (c .pre)) }
+    record {
+      exponent = ap gexp at ∙ exp-of-log (c .args .a) byte (c .pre);
+      low = subst (λ (k : ℕ). k < 255) (sym at) (log-lt (c .args .a) byte (c .pre));
+    }

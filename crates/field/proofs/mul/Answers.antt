@@ -1,4 +1,4 @@
-use mathlib.Core.Path.{_≡_, sym, ap₂, _∙_, ap}
+use mathlib.Core.Path.{sym, ap₂, _∙_, ap}
 use mathlib.Core.Logic.{inl, inr}
 use Prim.Native.Nat.{ℕ}
 use Rattle.field.specs.Field.{_⊗_}
@@ -7,9 +7,10 @@ use Rattle.field.proofs.mul.Needs as need
 
 pub returns-then-b-eq0 : need.returns-then-b-eq0
 returns-then-b-eq0 c =
-    elim (c .if-b-eq0 .either)
-      [ inl e ↦ sym (ap (λ (x : ℕ). x ⊗ c .args .b) e ∙ zero-mul (c .args .b))
-      | inr e ↦ sym (ap (λ (x : ℕ). c .args .a ⊗ x) (e .1) ∙ mul-zero (c .args .a)) ]
+    elim (c .if-b-eq0 .either) [
+      | inl e ↦ sym (ap (λ (x : ℕ). x ⊗ c .args .b) e ∙ zero-mul (c .args .b))
+      | inr e ↦ sym (ap (λ (x : ℕ). c .args .a ⊗ x) (e .1) ∙ mul-zero (c .args .a))
+    ]
 
 pub returns-else-b-eq0 : need.returns-else-b-eq0
 returns-else-b-eq0 c =
