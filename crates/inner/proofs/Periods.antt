@@ -6,10 +6,17 @@ use mathlib.Core.Logic.{_≢_, _⊎_, ⊎-elim}
 use mathlib.Core.List.{List}
 use Prim.Native.Nat.{ℕ, zero, suc, _+_, _-_, _*_, _/_, _%_, _<_, _≤_}
 use native.Mathlib.Omega.{arith}
-use native.Mathlib.Nat.{mul-suc, mul-le-mul-left, add-mul, one-mul, eq-or-lt-of-le}
+use native.Mathlib.Nat.{mul-comm, mul-suc, mul-le-mul-left, add-mul, one-mul, eq-or-lt-of-le}
 use lib.ListN.{getD, length, set}
 use lib.Seq.{getD-set-same, getD-set-other}
+use lib.Arith.{digits-mod}
 use Rattle.words.specs.Words.{Bits}
+use Rattle.standard.specs.Profiles.{period, punctured}
+use Rattle.standard.specs.declared.profile.InnerRate.{InnerRate}
+use Rattle.standard.specs.declared.profile.InnerRate.the-variants.{Half, TwoThirds, ThreeQuarters, FiveSixths}
+use Rattle.standard.specs.declared.profile.Coded.{Coded}
+use Rattle.standard.specs.declared.profile.Coded.the-variants.{X1}
+use Rattle.inner.specs.Outputs.{named, offset}
 
 -- period q is one of n periods
 pub record Among (p n q : ℕ) : Type 0 where
@@ -44,3 +51,62 @@ spread-more p i n f old new b long e s =
       rest = λ j h.
         let ne : j ≢ (p + 1) * n + i = h n (omega arith) in
         getD-set-other new ((p + 1) * n + i) j b false ne ∙ s .rest j (λ q l. h q (omega arith)) }
+
+-- ---- the puncturing tables
+pub punctured-long : (r : InnerRate) → length (punctured r) ≡ period r + 1
+punctured-long Half = refl
+punctured-long TwoThirds = refl
+punctured-long ThreeQuarters = refl
+punctured-long FiveSixths = refl
+
+-- no entry names a place past its period
+pub offset-within : (r : InnerRate) (i : ℕ) → i ≤ period r → offset (getD (punctured r) i X1) < period r
+offset-within Half zero l = omega arith
+offset-within Half (suc zero) l = omega arith
+offset-within Half (suc (suc i)) l = absurd (omega arith)
+offset-within TwoThirds zero l = omega arith
+offset-within TwoThirds (suc zero) l = omega arith
+offset-within TwoThirds (suc (suc zero)) l = omega arith
+offset-within TwoThirds (suc (suc (suc i))) l = absurd (omega arith)
+offset-within ThreeQuarters zero l = omega arith
+offset-within ThreeQuarters (suc zero) l = omega arith
+offset-within ThreeQuarters (suc (suc zero)) l = omega arith
+offset-within ThreeQuarters (suc (suc (suc zero))) l = omega arith
+offset-within ThreeQuarters (suc (suc (suc (suc i)))) l = absurd (omega arith)
+offset-within FiveSixths zero l = omega arith
+offset-within FiveSixths (suc zero) l = omega arith
+offset-within FiveSixths (suc (suc zero)) l = omega arith
+offset-within FiveSixths (suc (suc (suc zero))) l = omega arith
+offset-within FiveSixths (suc (suc (suc (suc zero)))) l = omega arith
+offset-within FiveSixths (suc (suc (suc (suc (suc zero))))) l = omega arith
+offset-within FiveSixths (suc (suc (suc (suc (suc (suc i)))))) l = absurd (omega arith)
+
+-- the first m entries of a table have filled their place of n periods, and nothing past the periods is changed
+pub record Filled (table : List Coded) (p n m : ℕ) (x y : Bits) (old new : List Bool) : Type 0 where
+  pub filled : (q i : ℕ) → q < n → i < m → getD new ((p + 1) * q + i) false ≡ named x y (p * q) (getD table i X1)
+  pub past : (j : ℕ) → (p + 1) * n ≤ j → getD new j false ≡ getD old j false
+
+pub filled-start : (table : List Coded) (p n : ℕ) (x y : Bits) (old : List Bool) → Filled table p n 0 x y old old
+filled-start table p n x y old = record { filled = λ q i l m. absurd (omega arith); past = λ j l. refl }
+
+-- coded bits of other entries stand apart
+apart : (p q i q′ i′ : ℕ) → i < p + 1 → i′ < p + 1 → (p + 1) * q + i ≡ (p + 1) * q′ + i′ → i ≡ i′
+apart p q i q′ i′ l m e =
+    sym (digits-mod q l)
+    ∙ ap (λ (z : ℕ). (z + i) % (p + 1)) (mul-comm q (p + 1))
+    ∙ ap (λ (z : ℕ). z % (p + 1)) e
+    ∙ ap (λ (z : ℕ). (z + i′) % (p + 1)) (mul-comm (p + 1) q′)
+    ∙ digits-mod q′ m
+
+pub filled-more : (table : List Coded) (p n m : ℕ) (x y : Bits) (f : ℕ → Bool) (old mid new : List Bool) → m ≤ p
+  → ((q : ℕ) → f q ≡ named x y (p * q) (getD table m X1)) → Spread p m n f mid new
+  → Filled table p n m x y old mid → Filled table p n (m + 1) x y old new
+filled-more table p n m x y f old mid new l e s h =
+    record {
+      filled = λ q i a b. ⊎-elim
+        (λ (o : i ≡ m). ap (λ (z : ℕ). getD new ((p + 1) * q + z) false) o ∙ s .spread q a ∙ e q ∙ ap (λ (z : ℕ). named x y (p * q) (getD table z X1)) (sym o))
+        (λ (o : i < m).
+          s .rest ((p + 1) * q + i) (λ q′ c d. let g = apart p q i q′ m (omega arith) (omega arith) d in omega arith)
+          ∙ h .filled q i a o)
+        (eq-or-lt-of-le (let o : i ≤ m = omega arith in o));
+      past = λ j a. s .rest j (λ q c d. let g = among p n q c in omega arith) ∙ h .past j a }

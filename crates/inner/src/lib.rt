@@ -68,3 +68,19 @@ fn source<'a>(entry: Coded, xs: &'a [u8], ys: &'a [u8]) -> (&'a [u8], usize)
         Coded::X5 => (xs, 4),
     }
 }
+
+// The coded bits of every period, from the outputs that the puncturing keeps.
+fn puncture(rate: InnerRate, xs: &[u8], ys: &[u8], periods: usize, coded: &mut [bool])
+    requires alike { ⌜ length (now xs) ≡ length (now ys) ⌝ }
+    requires held { ⌜ periodic rate * periods ≤ 8 * length (now xs) ⌝ }
+    requires room { ⌜ (periodic rate + 1) * periods ≤ length (now coded) ⌝ }
+    ensures punctured { λ _. ⌜ ((q i : ℕ) → q < periods → i ≤ periodic rate → getD (now (coded .exit)) ((periodic rate + 1) * q + i) false ≡ named (bits (word (now (xs .entry)))) (bits (word (now (ys .entry)))) (periodic rate * q) (getD (punctured rate) i Coded.X1)) ⌝ }
+    ensures past { λ _. ⌜ ((j : ℕ) → (periodic rate + 1) * periods ≤ j → getD (now (coded .exit)) j false ≡ getD (now (coded .entry)) j false) ⌝ }
+{
+    let table = rate.puncturing();
+    let period = rate.period();
+    for index in 0..table.len() {
+        let (outputs, place) = source(table[index], xs, ys);
+        spread(outputs, place, period, index, periods, coded);
+    }
+}
