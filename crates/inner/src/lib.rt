@@ -11,6 +11,9 @@ use standard::profile::Coded;
 use standard::profile::InnerRate;
 use words::bit_at;
 
+// The bytes of the longest burst.
+const LONGEST: usize = 960;
+
 // X and Y at eight places at once. The window holds their eight input bits and the six before, the newest lowest.
 fn outputs(window: u16) -> (u8, u8)
     ensures x { λ r. ⌜ ((b : ℕ) → b < 8 → bit (r .0) b ≡ x-in window b) ⌝ }
@@ -67,4 +70,35 @@ fn source<'a>(entry: Coded, xs: &'a [u8], ys: &'a [u8]) -> (&'a [u8], usize)
         Coded::Y4 => (ys, 3),
         Coded::X5 => (xs, 4),
     }
+}
+
+// The coded bits of every period, from the outputs that the puncturing keeps.
+fn puncture(rate: InnerRate, xs: &[u8], ys: &[u8], periods: usize, coded: &mut [bool])
+    requires alike { ⌜ length (now xs) ≡ length (now ys) ⌝ }
+    requires held { ⌜ periodic rate * periods ≤ 8 * length (now xs) ⌝ }
+    requires room { ⌜ (periodic rate + 1) * periods ≤ length (now coded) ⌝ }
+    ensures punctured { λ _. ⌜ ((q i : ℕ) → q < periods → i ≤ periodic rate → getD (now (coded .exit)) ((periodic rate + 1) * q + i) false ≡ named (bits (word (now (xs .entry)))) (bits (word (now (ys .entry)))) (periodic rate * q) (getD (punctured rate) i Coded.X1)) ⌝ }
+    ensures past { λ _. ⌜ ((j : ℕ) → (periodic rate + 1) * periods ≤ j → getD (now (coded .exit)) j false ≡ getD (now (coded .entry)) j false) ⌝ }
+{
+    let table = rate.puncturing();
+    let period = rate.period();
+    for index in 0..table.len() {
+        let (outputs, place) = source(table[index], xs, ys);
+        spread(outputs, place, period, index, periods, coded);
+    }
+}
+
+// The coded bits of the first `count` bytes, which are whole periods. What stands past them is left as it is.
+pub fn encode(rate: InnerRate, bytes: &[u8], count: usize, periods: usize, coded: &mut [bool])
+    requires short { ⌜ count ≤ 960 ⌝ }
+    requires given { ⌜ count ≤ length (now bytes) ⌝ }
+    requires whole { ⌜ 8 * count ≡ periodic rate * periods ⌝ }
+    requires room { ⌜ (periodic rate + 1) * periods ≤ length (now coded) ⌝ }
+    ensures encoded { λ _. ⌜ ((j : ℕ) → j < (periodic rate + 1) * periods → getD (now (coded .exit)) j false ≡ codeword (periodic rate) (bits (word (now (bytes .entry)))) j) ⌝ }
+    ensures past { λ _. ⌜ ((j : ℕ) → (periodic rate + 1) * periods ≤ j → getD (now (coded .exit)) j false ≡ getD (now (coded .entry)) j false) ⌝ }
+{
+    let mut xs = [0u8; LONGEST];
+    let mut ys = [0u8; LONGEST];
+    convolve(bytes, count, &mut xs, &mut ys);
+    puncture(rate, &xs, &ys, periods, coded);
 }

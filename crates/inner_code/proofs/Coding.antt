@@ -107,12 +107,14 @@ pattern-same u v n k p (suc (suc (suc (suc (suc zero))))) r h l m = x-same u v n
 pattern-same u v n k p (suc (suc (suc (suc (suc (suc i)))))) r h l m = refl
 
 -- where coded bit j of q periods stands
-record Standing (p q j : ℕ) : Type 0 where
-  some : 0 < p
-  period : p * (j / (p + 1)) + p ≤ p * q
-  place : j % (p + 1) ≤ p
+pub record Standing (p q j : ℕ) : Type 0 where
+  pub some : 0 < p
+  pub within : j / (p + 1) < q
+  pub period : p * (j / (p + 1)) + p ≤ p * q
+  pub place : j % (p + 1) ≤ p
+  pub split : (p + 1) * (j / (p + 1)) + j % (p + 1) ≡ j
 
-standing : (p q j : ℕ) → Rated p → j < (p + 1) * q → Standing p q j
+pub standing : (p q j : ℕ) → Rated p → j < (p + 1) * q → Standing p q j
 standing p q j half l = omega arith
 standing p q j two-thirds l = omega arith
 standing p q j three-quarters l = omega arith
