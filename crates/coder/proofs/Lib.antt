@@ -1,2 +1,3 @@
 pub mod Lawfulness
+pub mod Steps
 pub mod Worked

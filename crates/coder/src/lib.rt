@@ -1,4 +1,5 @@
 //! The sending chain: from the data of a request to the points of its burst.
+mod bytes;
 mod laws;
 pub use laws::bursts_are_lawful;
 pub use laws::worked_cases;

@@ -8,11 +8,11 @@ use lib.Dec.{lit≤}
 use Rattle.standard.specs.Profiles.{profile, Fitting}
 
 pub profiles-fit : (rate : ℕ) → rate ≤ 6 → Fitting (profile rate)
-profiles-fit zero h = record { modulation = inl refl; parity = refl; correctable = lit≤ tt; some = lit≤ tt; short = lit≤ tt; whole = refl }
-profiles-fit (suc zero) h = record { modulation = inr (inl refl); parity = refl; correctable = lit≤ tt; some = lit≤ tt; short = lit≤ tt; whole = refl }
-profiles-fit (suc (suc zero)) h = record { modulation = inr (inl refl); parity = refl; correctable = lit≤ tt; some = lit≤ tt; short = lit≤ tt; whole = refl }
-profiles-fit (suc (suc (suc zero))) h = record { modulation = inr (inr (inl refl)); parity = refl; correctable = lit≤ tt; some = lit≤ tt; short = lit≤ tt; whole = refl }
-profiles-fit (suc (suc (suc (suc zero)))) h = record { modulation = inr (inr (inl refl)); parity = refl; correctable = lit≤ tt; some = lit≤ tt; short = lit≤ tt; whole = refl }
-profiles-fit (suc (suc (suc (suc (suc zero))))) h = record { modulation = inr (inr (inr refl)); parity = refl; correctable = lit≤ tt; some = lit≤ tt; short = lit≤ tt; whole = refl }
-profiles-fit (suc (suc (suc (suc (suc (suc zero)))))) h = record { modulation = inr (inr (inr refl)); parity = refl; correctable = lit≤ tt; some = lit≤ tt; short = lit≤ tt; whole = refl }
+profiles-fit zero h = record { modulation = inl refl; parity = refl; correctable = lit≤ tt; some = lit≤ tt; small = lit≤ tt; short = lit≤ tt; whole = refl }
+profiles-fit (suc zero) h = record { modulation = inr (inl refl); parity = refl; correctable = lit≤ tt; some = lit≤ tt; small = lit≤ tt; short = lit≤ tt; whole = refl }
+profiles-fit (suc (suc zero)) h = record { modulation = inr (inl refl); parity = refl; correctable = lit≤ tt; some = lit≤ tt; small = lit≤ tt; short = lit≤ tt; whole = refl }
+profiles-fit (suc (suc (suc zero))) h = record { modulation = inr (inr (inl refl)); parity = refl; correctable = lit≤ tt; some = lit≤ tt; small = lit≤ tt; short = lit≤ tt; whole = refl }
+profiles-fit (suc (suc (suc (suc zero)))) h = record { modulation = inr (inr (inl refl)); parity = refl; correctable = lit≤ tt; some = lit≤ tt; small = lit≤ tt; short = lit≤ tt; whole = refl }
+profiles-fit (suc (suc (suc (suc (suc zero))))) h = record { modulation = inr (inr (inr refl)); parity = refl; correctable = lit≤ tt; some = lit≤ tt; small = lit≤ tt; short = lit≤ tt; whole = refl }
+profiles-fit (suc (suc (suc (suc (suc (suc zero)))))) h = record { modulation = inr (inr (inr refl)); parity = refl; correctable = lit≤ tt; some = lit≤ tt; small = lit≤ tt; short = lit≤ tt; whole = refl }
 profiles-fit (suc (suc (suc (suc (suc (suc (suc rate))))))) h = absurd (omega arith)

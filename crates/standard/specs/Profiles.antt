@@ -54,6 +54,7 @@ pub record Fitting (p : Profile) : Type 0 where
   pub parity : p .block ≡ 2 * p .limit + p .message
   pub correctable : p .limit ≤ 8
   pub some : 12 ≤ p .message
+  pub small : p .message ≤ 108
   pub short : p .block ≤ 120
   -- a symbol carries one block, and whole periods of it
   pub whole : 8 * p .block * (period (p .inner) + 1) ≡ period (p .inner) * (192 * p .bits)
