@@ -18,7 +18,7 @@ use Rattle.standard.specs.declared.profile.Coded.{Coded}
 use Rattle.standard.specs.declared.profile.Coded.the-variants.{X1}
 use Rattle.inner_code.specs.Inner.{x, y, pattern, coded, Rated, half, two-thirds, three-quarters, five-sixths}
 use Rattle.inner_code.proofs.Coding.{standing}
-use Rattle.inner.specs.Outputs.{named}
+use Rattle.inner.specs.Outputs.{kept}
 
 -- period q is one of n periods
 pub record Among (p n q : ℕ) : Type 0 where
@@ -41,15 +41,16 @@ pub spread-more : (p i n : ℕ) (f : ℕ → Bool) (old new : List Bool) (b : Bo
 spread-more p i n f old new b long e s =
     record {
       spread = λ q l. ⊎-elim
-        (λ (m : q ≡ n). ap (λ (z : ℕ). getD (set new ((p + 1) * n + i) b) ((p + 1) * z + i) false) m ∙ getD-set-same new ((p + 1) * n + i) b false long ∙ e ∙ ap f (sym m))
-        (λ (m : q < n).
+          (λ (m : q ≡ n). ap (λ (z : ℕ). getD (set new ((p + 1) * n + i) b) ((p + 1) * z + i) false) m ∙ getD-set-same new ((p + 1) * n + i) b false long ∙ e ∙ ap f (sym m))
+          (λ (m : q < n).
           let a = among p n q m in
           let ne : (p + 1) * q + i ≢ (p + 1) * n + i = omega (arith, a .outputs) in
           getD-set-other new ((p + 1) * n + i) ((p + 1) * q + i) b false ne ∙ s .spread q m)
-        (eq-or-lt-of-le (let m : q ≤ n = omega arith in m));
+          (eq-or-lt-of-le (let m : q ≤ n = omega arith in m));
       rest = λ j h.
-        let ne : j ≢ (p + 1) * n + i = h n (omega arith) in
-        getD-set-other new ((p + 1) * n + i) j b false ne ∙ s .rest j (λ q l. h q (omega arith)) }
+          let ne : j ≢ (p + 1) * n + i = h n (omega arith) in
+          getD-set-other new ((p + 1) * n + i) j b false ne ∙ s .rest j (λ q l. h q (omega arith));
+    }
 
 -- ---- the puncturing tables
 pub punctured-long : (r : InnerRate) → length (punctured r) ≡ period r + 1
@@ -60,7 +61,7 @@ punctured-long FiveSixths = refl
 
 -- the first m entries of a table have filled their place of n periods, and nothing past the periods is changed
 pub record Filled (table : List Coded) (p n m : ℕ) (x y : Bits) (old new : List Bool) : Type 0 where
-  pub filled : (q i : ℕ) → q < n → i < m → getD new ((p + 1) * q + i) false ≡ named x y (p * q) (getD table i X1)
+  pub filled : (q i : ℕ) → q < n → i < m → getD new ((p + 1) * q + i) false ≡ kept x y (p * q) (getD table i X1)
   pub past : (j : ℕ) → (p + 1) * n ≤ j → getD new j false ≡ getD old j false
 
 -- coded bits of other entries stand apart
@@ -73,17 +74,18 @@ apart p q i q′ i′ l m e =
     ∙ digits-mod q′ m
 
 pub filled-more : (table : List Coded) (p n m : ℕ) (x y : Bits) (f : ℕ → Bool) (old mid new : List Bool) → m ≤ p
-  → ((q : ℕ) → f q ≡ named x y (p * q) (getD table m X1)) → Spread p m n f mid new
-  → Filled table p n m x y old mid → Filled table p n (m + 1) x y old new
+    → ((q : ℕ) → f q ≡ kept x y (p * q) (getD table m X1)) → Spread p m n f mid new
+    → Filled table p n m x y old mid → Filled table p n (m + 1) x y old new
 filled-more table p n m x y f old mid new l e s h =
     record {
       filled = λ q i a b. ⊎-elim
-        (λ (o : i ≡ m). ap (λ (z : ℕ). getD new ((p + 1) * q + z) false) o ∙ s .spread q a ∙ e q ∙ ap (λ (z : ℕ). named x y (p * q) (getD table z X1)) (sym o))
-        (λ (o : i < m).
+          (λ (o : i ≡ m). ap (λ (z : ℕ). getD new ((p + 1) * q + z) false) o ∙ s .spread q a ∙ e q ∙ ap (λ (z : ℕ). kept x y (p * q) (getD table z X1)) (sym o))
+          (λ (o : i < m).
           s .rest ((p + 1) * q + i) (λ q′ c d. let g = apart p q i q′ m (omega arith) (omega arith) d in omega arith)
           ∙ h .filled q i a o)
-        (eq-or-lt-of-le (let o : i ≤ m = omega arith in o));
-      past = λ j a. s .rest j (λ q c d. let g = among p n q c in omega arith) ∙ h .past j a }
+          (eq-or-lt-of-le (let o : i ≤ m = omega arith in o));
+      past = λ j a. s .rest j (λ q c d. let g = among p n q c in omega arith) ∙ h .past j a;
+    }
 
 -- ---- coded bits
 pub rated : (r : InnerRate) → Rated (period r)
@@ -99,8 +101,8 @@ begins TwoThirds = refl
 begins ThreeQuarters = refl
 begins FiveSixths = refl
 
--- an entry names its bit of the pattern
-at-entry : (u a b : Bits) (p k n i : ℕ) → ((t : ℕ) → t < n → a t ≡ x u t) → ((t : ℕ) → t < n → b t ≡ y u t) → 0 < p → k + p ≤ n → i ≤ p → i < 6 → named a b k (getD (punctured FiveSixths) i X1) ≡ getD (pattern u k) i false
+-- an entry keeps its bit of the pattern
+at-entry : (u a b : Bits) (p k n i : ℕ) → ((t : ℕ) → t < n → a t ≡ x u t) → ((t : ℕ) → t < n → b t ≡ y u t) → 0 < p → k + p ≤ n → i ≤ p → i < 6 → kept a b k (getD (punctured FiveSixths) i X1) ≡ getD (pattern u k) i false
 at-entry u a b p k n zero f g o l m e = f (k + 0) (omega arith) ∙ ap (x u) (add-zero k)
 at-entry u a b p k n (suc zero) f g o l m e = g (k + 0) (omega arith) ∙ ap (y u) (add-zero k)
 at-entry u a b p k n (suc (suc zero)) f g o l m e = g (k + 1) (omega arith)
@@ -116,9 +118,9 @@ longest p three-quarters = omega arith
 longest p five-sixths = omega arith
 
 pub encoded : (r : InnerRate) (u a b : Bits) (n : ℕ) (new : List Bool)
-  → ((t : ℕ) → t < period r * n → a t ≡ x u t) → ((t : ℕ) → t < period r * n → b t ≡ y u t)
-  → ((q i : ℕ) → q < n → i ≤ period r → getD new ((period r + 1) * q + i) false ≡ named a b (period r * q) (getD (punctured r) i X1))
-  → (j : ℕ) → j < (period r + 1) * n → getD new j false ≡ coded (period r) u j
+    → ((t : ℕ) → t < period r * n → a t ≡ x u t) → ((t : ℕ) → t < period r * n → b t ≡ y u t)
+    → ((q i : ℕ) → q < n → i ≤ period r → getD new ((period r + 1) * q + i) false ≡ kept a b (period r * q) (getD (punctured r) i X1))
+    → (j : ℕ) → j < (period r + 1) * n → getD new j false ≡ coded (period r) u j
 unfolding coded
 encoded r u a b n new f g h j l =
     let s = standing (period r) n j (rated r) l in
@@ -126,5 +128,5 @@ encoded r u a b n new f g h j l =
     let o : j % (period r + 1) < period r + 1 = omega (arith, s .place) in
     ap (λ (z : ℕ). getD new z false) (sym (s .split))
     ∙ h (j / (period r + 1)) (j % (period r + 1)) (s .within) (s .place)
-    ∙ ap (named a b (period r * (j / (period r + 1)))) (ap (λ (t : List Coded). getD t (j % (period r + 1)) X1) (begins r) ∙ getD-take (period r + 1) (punctured FiveSixths) (j % (period r + 1)) X1 o)
+    ∙ ap (kept a b (period r * (j / (period r + 1)))) (ap (λ (t : List Coded). getD t (j % (period r + 1)) X1) (begins r) ∙ getD-take (period r + 1) (punctured FiveSixths) (j % (period r + 1)) X1 o)
     ∙ at-entry u a b (period r) (period r * (j / (period r + 1))) (period r * n) (j % (period r + 1)) f g (s .some) (s .period) (s .place) (omega (arith, s .place))

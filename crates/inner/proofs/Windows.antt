@@ -93,7 +93,7 @@ carried-more v i w h d l =
 -- the bit d before place t of the byte at i
 window-bit : (v : Bytes) (i w t d : ℕ) → v i < 256 → Carried v i w → t < 8 → d ≤ 6 → bit (next w (v i)) (7 - t + d) ≡ earlier (bits v) (8 * i + t) d
 window-bit v i w t d h c l m = elim (decLe d t) [
-    yes n ↦
+  | yes n ↦
       low-bit v i w (7 - t + d) h (omega arith)
       ∙ sym (earlier-is (bits v) (8 * i + (7 - (7 - t + d))) d)
       ∙ ap (λ (k : ℕ). earlier (bits v) k d) (let e : 8 * i + (7 - (7 - t + d)) + d ≡ 8 * i + t = omega arith in e)
@@ -104,7 +104,7 @@ window-bit v i w t d h c l m = elim (decLe d t) [
       ∙ c (d - t - 1) (omega arith)
       ∙ sym (earlier-on (bits v) (8 * i) (suc (d - t - 1)) t)
       ∙ ap (earlier (bits v) (8 * i + t)) (let e : suc (d - t - 1) + t ≡ d = omega arith in e)
-  ]
+]
 
 window-now : (v : Bytes) (i w t : ℕ) → v i < 256 → t < 8 → bit (next w (v i)) (7 - t) ≡ bits v (8 * i + t)
 window-now v i w t h l = low-bit v i w (7 - t) h (omega arith) ∙ ap (λ (n : ℕ). bits v (8 * i + n)) (let e : 7 - (7 - t) ≡ t = omega arith in e)
@@ -126,7 +126,7 @@ Holds xs f n = (k : ℕ) → k < 8 * n → bits (word xs) k ≡ f k
 
 holds-more : (xs : List ℕ) (f : Bits) (i byte : ℕ) → i < length xs → Holds xs f i → ((t : ℕ) → t < 8 → bit byte (7 - t) ≡ f (8 * i + t)) → Holds (set xs i byte) f (i + 1)
 holds-more xs f i byte long h g k l = elim (decLt k (8 * i)) [
-    yes m ↦
+  | yes m ↦
       let ne : k / 8 ≢ i = omega arith in
       ap (λ (z : ℕ). bit z (7 - k % 8)) (getD-set-other xs i (k / 8) byte 0 ne) ∙ h k m
   | no m ↦
@@ -135,7 +135,7 @@ holds-more xs f i byte long h g k l = elim (decLt k (8 * i)) [
       ∙ ap (λ (z : ℕ). bit z (7 - k % 8)) (getD-set-same xs i byte 0 long)
       ∙ g (k % 8) (omega arith)
       ∙ ap f (let e : 8 * i + k % 8 ≡ k = omega arith in e)
-  ]
+]
 
 pub x-more : (v : Bytes) (xs : List ℕ) (i w byte : ℕ) → v i < 256 → Carried v i w → i < length xs → ((b : ℕ) → b < 8 → bit byte b ≡ x-in (next w (v i)) b) → Holds xs (x (bits v)) i → Holds (set xs i byte) (x (bits v)) (i + 1)
 x-more v xs i w byte small c long o h =

@@ -1,4 +1,4 @@
--- The encoder's outputs by entry of the puncturing tables, and the bits of a window.
+-- What the steps of the encoder give: the bits of a window, and the bits that the puncturing keeps.
 -- Assumes nothing.
 use mathlib.Core.Bool.{Bool}
 use Prim.Native.Nat.{ℕ, _+_, _/_, _%_, _^_}
@@ -7,16 +7,16 @@ use Rattle.words.specs.Words.{Bits, _⊻_}
 use Rattle.standard.specs.declared.profile.Coded.{Coded}
 use Rattle.standard.specs.declared.profile.Coded.the-variants.{X1, Y1, Y2, X3, Y4, X5}
 
--- the output that an entry names, of the period from place k on
-abbrev pub named : Bits → Bits → ℕ → Coded → Bool
-named x y k X1 = x (k + 0)
-named x y k Y1 = y (k + 0)
-named x y k Y2 = y (k + 1)
-named x y k X3 = x (k + 2)
-named x y k Y4 = y (k + 3)
-named x y k X5 = x (k + 4)
+-- the outputs, X or Y, that an entry keeps a bit of
+abbrev pub chosen : Bits → Bits → Coded → Bits
+chosen x y X1 = x
+chosen x y Y1 = y
+chosen x y Y2 = y
+chosen x y X3 = x
+chosen x y Y4 = y
+chosen x y X5 = x
 
--- the place in its period of the output that an entry names
+-- the place of that bit in its period
 abbrev pub offset : Coded → ℕ
 offset X1 = 0
 offset Y1 = 0
@@ -24,6 +24,10 @@ offset Y2 = 1
 offset X3 = 2
 offset Y4 = 3
 offset X5 = 4
+
+-- the coded bit of an entry, in the period from place k on
+abbrev pub kept : Bits → Bits → ℕ → Coded → Bool
+kept x y k e = chosen x y e (k + offset e)
 
 -- bit b of a number, the lowest being bit 0
 abbrev pub bit : ℕ → ℕ → Bool

@@ -1,7 +1,7 @@
 //! The encoder of the inner code, for a whole burst.
 ghost use Prim.Native.Nat.{ℕ, _+_, _*_, _<_, _≤_};
 ghost use Rattle.inner_code.specs.Inner.{coded as codeword, x as x-output, y as y-output};
-ghost use Rattle.inner.specs.Outputs.{bit, named, offset as offset-of, x-in, y-in};
+ghost use Rattle.inner.specs.Outputs.{bit, kept, offset as offset-of, x-in, y-in};
 ghost use Rattle.standard.specs.Profiles.{period as periodic, punctured};
 ghost use Rattle.words.specs.Words.{bits, word};
 ghost use lib.ListN.{getD, length};
@@ -42,7 +42,14 @@ fn convolve(bytes: &[u8], count: usize, xs: &mut [u8], ys: &mut [u8])
 }
 
 // One coded bit of every period: the output at `place` of its inputs is bit `index` of its coded bits.
-fn spread(outputs: &[u8], place: usize, period: usize, index: usize, periods: usize, coded: &mut [bool])
+fn spread(
+    outputs: &[u8],
+    place: usize,
+    period: usize,
+    index: usize,
+    periods: usize,
+    coded: &mut [bool],
+)
     requires input { ⌜ place < period ⌝ }
     requires output { ⌜ index ≤ period ⌝ }
     requires held { ⌜ period * periods ≤ 8 * length (now outputs) ⌝ }
@@ -60,7 +67,7 @@ fn source<'a>(entry: Coded, xs: &'a [u8], ys: &'a [u8]) -> (&'a [u8], usize)
     requires alike { ⌜ length (now xs) ≡ length (now ys) ⌝ }
     ensures place { λ r. ⌜ r .1 ≡ offset-of entry ⌝ }
     ensures alike { λ r. ⌜ length (now (r .0)) ≡ length (now (xs .entry)) ⌝ }
-    ensures named { λ r. ⌜ ((k : ℕ) → bits (word (now (r .0))) (k + r .1) ≡ named (bits (word (now (xs .entry)))) (bits (word (now (ys .entry)))) k entry) ⌝ }
+    ensures kept { λ r. ⌜ ((k : ℕ) → bits (word (now (r .0))) (k + r .1) ≡ kept (bits (word (now (xs .entry)))) (bits (word (now (ys .entry)))) k entry) ⌝ }
 {
     match entry {
         Coded::X1 => (xs, 0),
@@ -77,7 +84,7 @@ fn puncture(rate: InnerRate, xs: &[u8], ys: &[u8], periods: usize, coded: &mut [
     requires alike { ⌜ length (now xs) ≡ length (now ys) ⌝ }
     requires held { ⌜ periodic rate * periods ≤ 8 * length (now xs) ⌝ }
     requires room { ⌜ (periodic rate + 1) * periods ≤ length (now coded) ⌝ }
-    ensures punctured { λ _. ⌜ ((q i : ℕ) → q < periods → i ≤ periodic rate → getD (now (coded .exit)) ((periodic rate + 1) * q + i) false ≡ named (bits (word (now (xs .entry)))) (bits (word (now (ys .entry)))) (periodic rate * q) (getD (punctured rate) i Coded.X1)) ⌝ }
+    ensures punctured { λ _. ⌜ ((q i : ℕ) → q < periods → i ≤ periodic rate → getD (now (coded .exit)) ((periodic rate + 1) * q + i) false ≡ kept (bits (word (now (xs .entry)))) (bits (word (now (ys .entry)))) (periodic rate * q) (getD (punctured rate) i Coded.X1)) ⌝ }
     ensures past { λ _. ⌜ ((j : ℕ) → (periodic rate + 1) * periods ≤ j → getD (now (coded .exit)) j false ≡ getD (now (coded .entry)) j false) ⌝ }
 {
     let table = rate.puncturing();

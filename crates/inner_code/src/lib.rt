@@ -8,5 +8,4 @@ ghost use mathlib.Core.Path.{_≡_};
 pub fn coding_is_linear()
     ensures linear { λ _. ⌜ ((p : ℕ) (u v : Bits) (j : ℕ) → coded p (plus u v) j ≡ coded p u j ⊻ coded p v j) ⌝ }
     ensures apart { λ _. ⌜ ((p n : ℕ) (u v : Bits) → ones n (coded p (plus u v)) ≡ ones n (plus (coded p u) (coded p v))) ⌝ }
-{
-}
+{}
