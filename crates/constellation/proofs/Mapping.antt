@@ -1,20 +1,20 @@
 -- Bits to points: what is read, what the loop has written, and that points carry their bits.
 -- Assumes nothing.
 use mathlib.Core.Path.{_≡_, refl, sym, _∙_, ap, ap₂, subst}
-use mathlib.Core.Logic.{_⊎_, inl, inr, _≢_}
+use mathlib.Core.Logic.{inl, inr}
 use mathlib.Core.Bool.{Bool, true, false, cond}
 use mathlib.Core.List.{List}
-use Prim.Native.Nat.{ℕ, zero, suc, _+_, _-_, _*_, _/_, _%_, _^_, _<_, _≤_}
+use Prim.Native.Nat.{ℕ, zero, suc, _+_, _-_, _*_, _^_, _<_, _≤_}
 use native.Mathlib.Omega.{arith}
 use native.Mathlib.Decide.{decLt, ℕ-discrete}
-use native.Mathlib.Nat.{add-zero, add-assoc, mul-suc, mul-le-mul-left}
+use native.Mathlib.Nat.{add-zero}
 use lib.Dec.{eqb}
 use mir.Val.{boolByte}
 use lib.IntN.{ℤ, pos, natAbs}
 use lib.ListN.{length, getD, set}
 use lib.Seq.{getD-set-same, getD-set-other}
 use Rattle.words.specs.Words.{Bits, flags, value, digit}
-use Rattle.words.proofs.Bridge.{digit-lt, digit-eqb, value-below, value-same, value-suc}
+use Rattle.words.proofs.Bridge.{digit-lt, digit-eqb, value-below, value-suc}
 use Rattle.standard.specs.Profiles.{Modulation}
 use Rattle.standard.specs.declared.point.Point.{Point}
 use Rattle.constellation.specs.Constellation.{Width, width, level, in-phase, quadrature, point, origin, Carried}
@@ -104,16 +104,16 @@ axis-one b x y w e = value-one b x y (level-one b (value b x) (value b y) w (val
 pub carried : Carried
 carried =
     record {
-      in-reach = λ c sent t m. level-within (width c) (in-phase c sent t) (width-of c m) (value-below (width c) (λ u. sent (c * t + u)));
-      in-reach-q = q-reach;
+      i-within = λ c sent t m. level-within (width c) (in-phase c sent t) (width-of c m) (value-below (width c) (λ u. sent (c * t + u)));
+      q-within = reach;
       one-to-one = λ c a b t m e u h. elim (decLt u (width c)) [
         | yes l ↦ axis-one (width c) (λ u. a (c * t + u)) (λ u. b (c * t + u)) (width-of c m) (ap (λ (p : Point). p .i) e) u l
         | no l ↦ second c a b t m e u h (omega arith)
       ];
     }
   where
-    q-reach : (c : ℕ) (sent : Bits) (t : ℕ) → Modulation c → natAbs (point c sent t .q) ≤ 1792
-    q-reach c sent t m = elim (decLt 1 c) [
+    reach : (c : ℕ) (sent : Bits) (t : ℕ) → Modulation c → natAbs (point c sent t .q) ≤ 1792
+    reach c sent t m = elim (decLt 1 c) [
       | yes h ↦ subst (λ (x : ℤ). natAbs x ≤ 1792) (sym (q-is c sent t h)) (level-within (width c) (quadrature c sent t) (width-of c m) (value-below (width c) (λ u. sent (c * t + width c + u))))
       | no h ↦ (let e : c ≡ 1 = omega arith in subst (λ (x : ℕ). natAbs (point x sent t .q) ≤ 1792) (sym e) (omega arith))
     ]

@@ -51,7 +51,7 @@ origin = record { i = pos 0; q = pos 0 }
 -- What points keep of their bits, for every modulation.
 pub record Carried : Type 0 where
   -- no axis is farther out than 1,792 counts
-  pub in-reach : (c : ℕ) (sent : Bits) (t : ℕ) → Modulation c → natAbs (point c sent t .i) ≤ 1792
-  pub in-reach-q : (c : ℕ) (sent : Bits) (t : ℕ) → Modulation c → natAbs (point c sent t .q) ≤ 1792
+  pub i-within : (c : ℕ) (sent : Bits) (t : ℕ) → Modulation c → natAbs (point c sent t .i) ≤ 1792
+  pub q-within : (c : ℕ) (sent : Bits) (t : ℕ) → Modulation c → natAbs (point c sent t .q) ≤ 1792
   -- a carrier's bits are known from its point
   pub one-to-one : (c : ℕ) (a b : Bits) (t : ℕ) → Modulation c → point c a t ≡ point c b t → (u : ℕ) → u < c → a (c * t + u) ≡ b (c * t + u)

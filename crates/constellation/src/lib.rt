@@ -7,6 +7,13 @@ ghost use lib.ListN.{getD, length};
 ghost use mathlib.Core.Path.{_≡_};
 use standard::point::Point;
 
+// The levels of an axis by their bits, Gray coded: neighbouring levels differ in one bit.
+const ONE_BIT: [i16; 2] = [256, -256];
+
+const TWO_BITS: [i16; 4] = [256, 768, -256, -768];
+
+const THREE_BITS: [i16; 8] = [768, 256, 1280, 1792, -768, -256, -1280, -1792];
+
 // How many bits an axis has.
 fn width(c: usize) -> usize
     requires { ⌜ Modulation c ⌝ }
@@ -22,35 +29,18 @@ fn width(c: usize) -> usize
     }
 }
 
-// The level of the bits `v`, in counts: Gray coded, so that neighbours differ in one bit.
-pub fn level(b: usize, v: u8) -> i16
+// The level of the bits `v`, in counts.
+fn level(b: usize, v: u8) -> i16
     requires width { ⌜ Width b ⌝ }
     requires among { ⌜ v < 2 ^ b ⌝ }
     ensures { λ r. ⌜ r ≡ leveled b v ⌝ }
 {
     if b == 1 {
-        match v {
-            0 => 256,
-            _ => -256,
-        }
+        ONE_BIT[v as usize]
     } else if b == 2 {
-        match v {
-            0 => 256,
-            1 => 768,
-            2 => -256,
-            _ => -768,
-        }
+        TWO_BITS[v as usize]
     } else {
-        match v {
-            0 => 768,
-            1 => 256,
-            2 => 1280,
-            3 => 1792,
-            4 => -768,
-            5 => -256,
-            6 => -1280,
-            _ => -1792,
-        }
+        THREE_BITS[v as usize]
     }
 }
 
@@ -111,5 +101,4 @@ pub fn map(c: usize, sent: &[bool], points: &mut [Point])
 // A point is within reach, and carries its bits: see the contract.
 pub fn points_carry_their_bits()
     ensures { λ _. ⌜ Carried ⌝ }
-{
-}
+{}

@@ -1,15 +1,10 @@
 -- The laws of the interleaver as its public functions promise them, and the steps of its loops.
 -- Assumes nothing.
-use mathlib.Core.Path.{_≡_, refl, sym, _∙_, ap, subst}
-use mathlib.Core.Logic.{_≢_}
-use mathlib.Core.Bool.{Bool, false}
-use mathlib.Core.List.{List}
-use Prim.Native.Nat.{ℕ, zero, suc, _+_, _-_, _*_, _/_, _%_, _<_, _≤_}
+use mathlib.Core.Path.{_≡_, sym, _∙_, ap, subst}
+use Prim.Native.Nat.{ℕ, _+_, _-_, _*_, _/_, _%_, _<_}
 use native.Mathlib.Omega.{arith}
 use native.Mathlib.Nat.{div-add-mod, mod-lt, div-lt-iff-lt-mul, mul-comm}
-use lib.ListN.{length, getD, set}
-use lib.Seq.{getD-set-same, getD-set-other}
-use Rattle.words.specs.Words.{Bits, flags}
+use Rattle.words.specs.Words.{Bits}
 use Rattle.standard.specs.Profiles.{Modulation}
 use Rattle.interleaver.specs.Interleaver.{size, turn, place, source, Interleaved, Permutation}
 use Rattle.interleaver.proofs.Permutation.{parts, size-pos, place-below, source-below, source-place, place-source, place-at}

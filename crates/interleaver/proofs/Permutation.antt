@@ -1,10 +1,10 @@
 -- k → j is a permutation of the places of a symbol, for every number of subchannels and every modulation.
 -- Assumes nothing.
 use mathlib.Core.Path.{_≡_, refl, sym, _∙_, ap, ap₂, subst}
-use mathlib.Core.Logic.{_⊎_, inl, inr}
-use Prim.Native.Nat.{ℕ, zero, suc, _+_, _-_, _*_, _/_, _%_, _<_, _≤_, max}
+use mathlib.Core.Logic.{inl, inr}
+use Prim.Native.Nat.{ℕ, zero, suc, _+_, _-_, _*_, _/_, _%_, _<_, _≤_}
 use native.Mathlib.Omega.{arith}
-use native.Mathlib.Nat.{mul-add-div, div-eq-of-lt, mod-lt, mul-add-mod-self-left, mod-eq-of-lt, div-add-mod, add-zero, mul-comm, mul-assoc, mul-div-mul-left, mul-div-right, div-lt-iff-lt-mul, div-div-eq-div-mul, mul-le-mul-left}
+use native.Mathlib.Nat.{mul-add-div, div-eq-of-lt, mod-lt, div-add-mod, add-zero, mul-comm, mul-assoc, mul-div-mul-left, mul-div-right, div-lt-iff-lt-mul, mul-le-mul-left}
 use lib.Dec.{lit<}
 use Rattle.standard.specs.Profiles.{Modulation}
 use Rattle.interleaver.specs.Interleaver.{size, turn, spread, turned, place, unturned, gathered, source}
@@ -63,7 +63,7 @@ module _ (g c : ℕ) (p : Parts c) (hg : 0 < g) where
   row-parts : g * c ≡ turn c * (p .halves * g)
   row-parts = ap (λ (x : ℕ). g * x) (p .whole) ∙ mul-comm g (turn c * p .halves) ∙ mul-assoc (turn c) (p .halves) g
 
-  pub size-parts : size g c ≡ turn c * (12 * (p .halves * g))
+  size-parts : size g c ≡ turn c * (12 * (p .halves * g))
   size-parts = let e = row-parts in let f = size-rows g c in omega arith
 
   c-pos : 0 < c

@@ -4,17 +4,17 @@ use mathlib.Core.Path.{_≡_, refl, sym, _∙_, ap, ap₂, subst}
 use mathlib.Core.Logic.{_⊎_, inl, inr, _≢_}
 use mathlib.Core.Bool.{Bool, false}
 use mathlib.Core.List.{List}
-use Prim.Native.Nat.{ℕ, zero, suc, _+_, _-_, _*_, _/_, _%_, _<_, _≤_}
+use Prim.Native.Nat.{ℕ, suc, _+_, _-_, _*_, _/_, _%_, _<_, _≤_}
 use native.Mathlib.Omega.{arith}
 use native.Mathlib.Decide.{decLt, ℕ-discrete}
-use native.Mathlib.Nat.{div-add-mod, mod-lt, lt-of-mul-lt-mul-left, le-antisymm, mul-suc, mul-le-mul-left, add-mod-right, add-div-right, mod-eq-of-lt}
-use lib.ListN.{length, getD, set}
+use native.Mathlib.Nat.{div-add-mod, lt-of-mul-lt-mul-left, mul-suc, mul-le-mul-left, add-mod-right, add-div-right}
+use lib.ListN.{length, set}
 use lib.Seq.{getD-set-same, getD-set-other}
 use Rattle.words.specs.Words.{Bits, flags}
 use Rattle.standard.specs.Profiles.{Modulation}
 use Rattle.interleaver.specs.Interleaver.{size, turn, place, Interleaved}
-use Rattle.interleaver.specs.Steps.{stride, Kept, Symbol, Run}
-use Rattle.interleaver.proofs.Permutation.{Parts, parts, place-below, place-at, size-pos, size-parts}
+use Rattle.interleaver.specs.Steps.{stride, Kept, Symbol}
+use Rattle.interleaver.proofs.Permutation.{parts, place-below, place-at}
 use Rattle.interleaver.proofs.Laws.{injective}
 
 -- ---- strides
@@ -23,14 +23,6 @@ turn-pos c = omega arith
 
 pub turn-few : (c : ℕ) → Modulation c → turn c ≤ 3
 turn-few c m = omega arith
-
--- a symbol is a whole number of strides
-pub stride-le : (g c : ℕ) → 0 < g → Modulation c → stride c ≤ size g c
-stride-le g c hg m = up (turn c) (parts c m .halves * g) (size g c) (size-pos g c (parts c m) hg) (size-parts g c (parts c m) hg)
-  where
-    up : (s t n : ℕ) → 0 < n → n ≡ s * (12 * t) → 12 * s ≤ n
-    up s zero n h e = absurd (omega arith)
-    up s (suc t) n h e = omega arith
 
 -- two places of one run that are less than a stride apart are one
 same-of-run : (n i k : ℕ) → i % n ≡ k % n → k ≤ i → i < k + n → i ≡ k
@@ -51,7 +43,7 @@ strided : (s w n k : ℕ) → 0 < s → k < n
 strided s w n k hs h =
     ap₂ (λ (r q : ℕ). (w * r + q) / s * s + (w * r + q + n - r) % s) (let e : (k + 12 * s) % 12 ≡ k % 12 = omega arith in e) (let e : (k + 12 * s) / 12 ≡ k / 12 + s = omega arith in e)
     ∙ ap₂ (λ (x y : ℕ). x / s * s + y % s) (let e : w * (k % 12) + (k / 12 + s) ≡ w * (k % 12) + k / 12 + s = omega arith in e)
-      (let e : w * (k % 12) + (k / 12 + s) + n - k % 12 ≡ w * (k % 12) + k / 12 + n - k % 12 + s = omega arith in e)
+    (let e : w * (k % 12) + (k / 12 + s) + n - k % 12 ≡ w * (k % 12) + k / 12 + n - k % 12 + s = omega arith in e)
     ∙ ap₂ (λ (x y : ℕ). x * s + y) (add-div-right (w * (k % 12) + k / 12) hs) (add-mod-right (w * (k % 12) + k / 12 + n - k % 12) s)
     ∙ one-more ((w * (k % 12) + k / 12) / s) ((w * (k % 12) + k / 12 + n - k % 12) % s)
   where
@@ -100,19 +92,6 @@ pub record RunTo (g c base first k j : ℕ) (coded before now : Bits) : Type 0 w
   pub others : (i : ℕ) → i < size g c → (i % stride c ≡ first → ⊥) → now (base + place g c i) ≡ before (base + place g c i)
   pub kept : Kept g c base before now
 
-pub run-start : (g c base first j : ℕ) (coded before : Bits) → first < stride c → j ≡ place g c first → RunTo g c base first first j coded before before
-run-start g c base first j coded before h e =
-    record {
-      next = λ _. e;
-      phase = mod-eq-of-lt h;
-      goes = λ i l hi p. absurd (low (stride c) i h l p);
-      others = λ i hi p. refl;
-      kept = λ i h. refl;
-    }
-  where
-    low : (n i : ℕ) → first < n → i < first → i % n ≡ first → ⊥
-    low n i h l p = let e : i % n ≡ i = mod-eq-of-lt (let z : i < n = omega arith in z) in omega arith
-
 run-step : (g c base first k j : ℕ) (v : Bool) (coded before : Bits) (sent : List Bool) → 0 < g → Modulation c → k < size g c → base + size g c ≤ length sent
     → v ≡ coded (base + k) → RunTo g c base first k j coded before (flags sent)
     → RunTo g c base first (k + stride c) (place g c k + turn c) coded before (flags (set sent (base + place g c k) v))
@@ -145,44 +124,17 @@ run-more g c base first k j s coded before sent hg m hk l es r =
 pub run-within : {g c base first k j : ℕ} {coded before now : Bits} → 0 < g → Modulation c → k < size g c → RunTo g c base first k j coded before now → j < size g c
 run-within {g = g} {c = c} {k = k} hg m hk r = subst (λ (x : ℕ). x < size g c) (sym (r .next hk)) (place-below g c (parts c m) hg k hk)
 
-pub run-end : (g c base first k j : ℕ) (coded before now : Bits) → size g c ≤ k → RunTo g c base first k j coded before now → Run g c base first coded before now
-run-end g c base first k j coded before now h r =
-    record { goes = λ i hi p. r .goes i (omega arith) hi p; others = r .others; kept = r .kept }
-
 -- ---- one symbol
 -- the runs before a first one are written
 pub record RunsTo (g c base first : ℕ) (coded before now : Bits) : Type 0 where
   pub goes : (k : ℕ) → k < size g c → k % stride c < first → now (base + place g c k) ≡ coded (base + k)
   pub kept : Kept g c base before now
 
-pub runs-none : (g c base : ℕ) (coded before : Bits) → RunsTo g c base 0 coded before before
-runs-none g c base coded before = record { goes = λ k h l. absurd (omega arith); kept = λ j h. refl }
-
-pub runs-more : (g c base first : ℕ) (coded before mid now : Bits) → RunsTo g c base first coded before mid → Run g c base first coded mid now → RunsTo g c base (first + 1) coded before now
-runs-more g c base first coded before mid now w r =
-    record {
-      goes = λ k h l. elim (ℕ-discrete (k % stride c) first) [
-        | yes e ↦ r .goes k h e
-        | no e ↦ r .others k h e ∙ w .goes k h (less (k % stride c) l e)
-      ];
-      kept = λ j h. r .kept j h ∙ w .kept j h;
-    }
-  where
-    less : (x : ℕ) → x < first + 1 → x ≢ first → x < first
-    less x l e = omega arith
-
-pub runs-all : (g c base : ℕ) (coded before now : Bits) → RunsTo g c base (stride c) coded before now → Symbol g c base coded before now
-runs-all g c base coded before now w =
-    record { goes = λ k h. w .goes k h (mod-lt k (let p = turn-pos c in let z : 0 < stride c = omega arith in z)); kept = w .kept }
-
 -- ---- all symbols
 -- the first n symbols are written, and the rest is as it was
 pub record SymbolsTo (g c n : ℕ) (coded before now : Bits) : Type 0 where
   pub goes : Interleaved g c n coded now
   pub rest : (j : ℕ) → size g c * n ≤ j → now j ≡ before j
-
-pub symbols-none : (g c : ℕ) (coded before : Bits) → SymbolsTo g c 0 coded before before
-symbols-none g c coded before = record { goes = record { goes = λ b k h. absurd (omega arith) }; rest = λ j h. refl }
 
 -- symbol b ends before symbol n starts
 pub symbol-ends : (w b n : ℕ) → b < n → w * b + w ≤ w * n

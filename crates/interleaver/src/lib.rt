@@ -41,7 +41,8 @@ fn turn(c: usize) -> usize
     }
 }
 
-// Writes each coded bit that is a whole number of strides from the first: no division for each bit.
+// Writes every coded bit that is a whole number of strides from `first`. Coded bits 12 s apart go to places
+// s apart, so that no bit asks for a division.
 fn interleave_run(g: usize, c: usize, base: usize, first: usize, coded: &[bool], sent: &mut [bool])
     requires some { ⌜ 0 < g ⌝ }
     requires few { ⌜ g ≤ 16 ⌝ }
@@ -95,5 +96,4 @@ pub fn interleave(g: usize, c: usize, count: usize, coded: &[bool], sent: &mut [
 // Interleaving is a permutation, and loses nothing: see the contract.
 pub fn interleaving_permutes()
     ensures { λ _. ⌜ Permutation ⌝ }
-{
-}
+{}

@@ -1,5 +1,4 @@
 use borrow.Author.Needs.{needs}
-use native.Mathlib.Omega.{arith}
 use Rattle.words.specs.Words.{flags}
 use Rattle.interleaver.specs.Interleaver.{size}
 use Rattle.interleaver.proofs.Writing.{symbol-ends, symbols-more}

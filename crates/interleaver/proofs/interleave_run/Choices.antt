@@ -1,4 +1,4 @@
-use Prim.Native.Nat.{_-_, _*_}
+use Prim.Native.Nat.{_-_}
 use Rattle.words.specs.Words.{flags}
 use Rattle.interleaver.proofs.Writing.{RunTo}
 use Rattle.interleaver.proofs.interleave_run.Given as given
