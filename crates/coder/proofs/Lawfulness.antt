@@ -65,5 +65,5 @@ lawful r d h =
     record {
       words = λ b l. words r d f b;
       interleaved = sent-goes r d (f .modulation);
-      in-range = λ t. (carried .in-reach (profiled r .bits) (sent r d) t (f .modulation), carried .in-reach-q (profiled r .bits) (sent r d) t (f .modulation));
+      in-range = λ t. (carried .i-within (profiled r .bits) (sent r d) t (f .modulation), carried .q-within (profiled r .bits) (sent r d) t (f .modulation));
     }

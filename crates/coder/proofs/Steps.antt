@@ -3,27 +3,32 @@
 use mathlib.Core.Path.{_≡_, refl, sym, _∙_, ap, ap₂, subst}
 use mathlib.Core.Bool.{Bool, true, false, cond}
 use mathlib.Core.List.{List}
+use mathlib.Core.Logic.{_⊎_, inl, inr}
 use Prim.Native.Nat.{ℕ, zero, suc, _+_, _-_, _*_, _/_, _%_, _<_, _≤_}
 use native.Mathlib.Omega.{arith}
 use native.Mathlib.Decide.{ℕ-discrete}
-use native.Mathlib.Nat.{mul-le-mul}
+use native.Mathlib.Nat.{mul-le-mul, mul-assoc, mul-comm, mul-left-comm}
 use lib.Dec.{ltb}
 use lib.ListN.{length, getD, set}
 use lib.Seq.{getD-set-same, getD-set-other}
 use borrow.Author.Tests.{lt-ltb, le-ltb}
-use Rattle.words.specs.Words.{Bits, Bytes, word, bits}
+use Rattle.words.specs.Words.{Bits, Bytes, word, flags, bits}
 use Rattle.words.proofs.Bridge.{bits-same}
 use Rattle.standard.specs.declared.order.Request.{Request}
+use Rattle.standard.specs.declared.profile.InnerRate.{InnerRate}
+use Rattle.standard.specs.declared.profile.InnerRate.the-variants.{Half, TwoThirds, ThreeQuarters, FiveSixths}
+use Rattle.standard.specs.declared.profile.Profile.{Profile}
 use Rattle.standard.specs.Profiles.{Modulation, Fitting, period}
 use Rattle.standard.specs.Refusals.{capacity}
 use Rattle.scrambler.specs.Scrambler.{start, scrambled}
 use Rattle.scrambler.proofs.Keys.{scrambled-same}
 use Rattle.outer_code.specs.Blocks.{blocks}
 use Rattle.outer_code.proofs.Blocks.{blocks-same}
-use Rattle.inner_code.specs.Inner.{Rated, coded}
+use Rattle.inner_code.specs.Inner.{Rated, half, two-thirds, three-quarters, five-sixths, coded}
 use Rattle.inner_code.proofs.Coding.{coded-same}
 use Rattle.interleaver.specs.Interleaver.{Interleaved, size}
 use Rattle.interleaver.proofs.Laws.{permutation}
+use Rattle.interleaver.proofs.Writing.{symbol-ends}
 use Rattle.coder.specs.Sending.{band, profiled, filled, tailed, message, protected, coded-bits, symbol-bits, burst-bits, sent}
 use Rattle.coder.proofs.Lawfulness.{sent-goes}
 
@@ -66,3 +71,63 @@ unfolding protected
 blocks-done r d bytes coded f m c i h =
     let l : i < r .symbols * (2 * profiled r .limit + profiled r .message) = subst (λ (n : ℕ). i < r .symbols * n) (f .parity) h in
     c i l ∙ blocks-same (profiled r .message) (profiled r .limit) (omega arith) (r .symbols) (word bytes) (message r d) m i l
+
+-- ---- whole periods
+pub rated : (rate : InnerRate) → Rated (period rate)
+rated Half = half
+rated TwoThirds = two-thirds
+rated ThreeQuarters = three-quarters
+rated FiveSixths = five-sixths
+
+-- the bytes of n blocks are whole periods, and their coded bits are those of n symbols
+pub record Periods (p n block c q : ℕ) : Type 0 where
+  pub whole : 8 * (n * block) ≡ p * q
+  pub coded : (p + 1) * q ≡ size band c * n
+
+pub periods : (rate : InnerRate) (n block c : ℕ) → 8 * block * (period rate + 1) ≡ period rate * (192 * c) → Periods (period rate) n block c (8 * (n * block) / period rate)
+periods rate n block c e = go rate e
+  where
+    bits : size band c * n ≡ 192 * (n * c)
+    bits = mul-assoc 192 c n ∙ ap (λ (x : ℕ). 192 * x) (mul-comm c n)
+
+    bytes : (u : ℕ) → block ≡ u * c → n * block ≡ u * (n * c)
+    bytes u h = ap (λ (x : ℕ). n * x) h ∙ mul-left-comm n u c
+
+    go : (rate : InnerRate) → 8 * block * (period rate + 1) ≡ period rate * (192 * c) → Periods (period rate) n block c (8 * (n * block) / period rate)
+    go Half h = let a = bits in let b = bytes 12 (omega arith) in let q : 8 * (n * block) / 1 ≡ 96 * (n * c) = omega arith in record { whole = omega arith; coded = omega arith }
+    go TwoThirds h = let a = bits in let b = bytes 16 (omega arith) in let q : 8 * (n * block) / 2 ≡ 64 * (n * c) = omega arith in record { whole = omega arith; coded = omega arith }
+    go ThreeQuarters h = let a = bits in let b = bytes 18 (omega arith) in let q : 8 * (n * block) / 3 ≡ 48 * (n * c) = omega arith in record { whole = omega arith; coded = omega arith }
+    go FiveSixths h = let a = bits in let b = bytes 20 (omega arith) in let q : 8 * (n * block) / 5 ≡ 32 * (n * c) = omega arith in record { whole = omega arith; coded = omega arith }
+
+-- as the code counts them
+pub counted : (p : Profile) (n period-of : ℕ) → Fitting p → period-of ≡ period (p .inner) → Periods (period (p .inner)) n (p .block) (p .bits) (8 * (n * p .block) / period-of)
+counted p n period-of f e = subst (λ (x : ℕ). Periods (period (p .inner)) n (p .block) (p .bits) (8 * (n * p .block) / x)) (sym e) (periods (p .inner) n (p .block) (p .bits) (f .whole))
+
+pub few-bits : (c n : ℕ) → Modulation c → n ≤ 8 → size band c * n ≤ 9216
+few-bits c n m h = mul-le-mul {n₁ = size band c} {m₁ = n} {n₂ = 1152} {m₂ = 8} (at-most c m) h
+  where
+    at-most : (c : ℕ) → Modulation c → size band c ≤ 1152
+    at-most c (inl e) = omega arith
+    at-most c (inr (inl e)) = omega arith
+    at-most c (inr (inr (inl e))) = omega arith
+    at-most c (inr (inr (inr e))) = omega arith
+
+pub coded-done : (r : Request) (d blocks : List ℕ) (bs : List Bool) (q : ℕ) → Periods (period (profiled r .inner)) (r .symbols) (profiled r .block) (profiled r .bits) q
+    → ((i : ℕ) → i < r .symbols * profiled r .block → getD blocks i 0 ≡ protected r d i) → ((j : ℕ) → j < (period (profiled r .inner) + 1) * q → getD bs j false ≡ coded (period (profiled r .inner)) (bits (word blocks)) j)
+    → (j : ℕ) → j < burst-bits r → getD bs j false ≡ coded-bits r d j
+unfolding coded-bits
+coded-done r d blocks bs q p b c j h =
+    let l : j < (period (profiled r .inner) + 1) * q = subst (λ (n : ℕ). j < n) (sym (p .coded)) h in
+    c j l
+    ∙ coded-same (period (profiled r .inner)) q (bits (word blocks)) (bits (protected r d)) (rated (profiled r .inner))
+      (λ k m. bits-same (word blocks) (protected r d) (r .symbols * profiled r .block) b k (subst (λ (n : ℕ). k < n) (sym (p .whole)) m)) j l
+
+-- ---- the order sent
+pub sent-done : (r : Request) (d : List ℕ) (bs out : List Bool) → Modulation (profiled r .bits) → ((j : ℕ) → j < burst-bits r → getD bs j false ≡ coded-bits r d j)
+    → Interleaved band (profiled r .bits) (r .symbols) (flags bs) (flags out) → (j : ℕ) → j < burst-bits r → getD out j false ≡ sent r d j
+sent-done r d bs out m c i j h =
+    permutation .sent-by-coded band (profiled r .bits) (r .symbols) (coded-bits r d) (flags out) (sent r d) (omega arith) m
+    (record { goes = λ b k hb hk. i .goes b k hb hk ∙ c (symbol-bits r * b + k) (in-burst b k hb hk) }) (sent-goes r d m) j h
+  where
+    in-burst : (b k : ℕ) → b < r .symbols → k < symbol-bits r → symbol-bits r * b + k < burst-bits r
+    in-burst b k hb hk = let e = symbol-ends (symbol-bits r) b (r .symbols) hb in omega arith
