@@ -95,12 +95,11 @@ fn encode_block(size: usize, limit: usize, b: usize, message: &[u8], coded: &mut
     copy(message, from, size, coded, at + 2 * limit);
 }
 
-// Writes the blocks of `count` messages of `size` bytes each. In every block `limit` wrong bytes can be corrected.
+// Writes the blocks of `count` messages of `size` bytes each, with the parity that is meant to bear `limit` wrong bytes.
 pub fn encode(size: usize, limit: usize, count: usize, message: &[u8], coded: &mut [u8])
     requires some { ⌜ 0 < size ⌝ }
     requires short { ⌜ size ≤ 239 ⌝ }
     requires few { ⌜ limit ≤ 8 ⌝ }
-    requires number { ⌜ count ≤ 8 ⌝ }
     requires there { ⌜ count * size ≤ length (now message) ⌝ }
     requires room { ⌜ count * (2 * limit + size) ≤ length (now coded) ⌝ }
     ensures coded { λ _. ⌜ ((i : ℕ) → i < count * (2 * limit + size) → getD (now (coded .exit)) i 0 ≡ blocks size limit (word (now (message .entry))) i) ⌝ }

@@ -19,9 +19,9 @@ Vanishes cs = (j : ℕ) → j < 16 → evaluated (gexp j) cs ≡ 0
 abbrev pub AreBytes : List ℕ → Type 0
 AreBytes xs = (k : ℕ) → getD xs k 0 < 256
 
--- w is a block with size message bytes in which limit wrong bytes can be corrected. The message is filled up with zeros in
--- front to 239 bytes, and these and 16 parity bytes are a word of RS(255, 239). Neither the zeros nor the last 16 - 2 * limit
--- parity bytes are sent, and the 2 * limit parity bytes that are left stand before the message.
+-- w is a block of size message bytes that is meant to bear limit wrong bytes. The message is filled up in front with zeros to
+-- 239 bytes, and with 16 parity bytes behind it is a word of RS(255, 239). Neither the zeros nor the last 16 - 2 * limit parity
+-- bytes are sent, and the first 2 * limit parity bytes stand before the message.
 pub record Outer (size limit : ℕ) (w : List ℕ) : Type 0 where
   pub message : List ℕ
   pub parity : List ℕ
