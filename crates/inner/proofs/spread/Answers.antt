@@ -1,6 +1,5 @@
 use native.Mathlib.Omega.{arith}
-use borrow.Author.Needs.{needs}
-use Prim.Native.Nat.{ℕ, _+_, _*_}
+use Prim.Native.Nat.{_+_, _*_}
 use Rattle.words.specs.Words.{word, bits}
 use Rattle.inner.proofs.Periods.{among, spread-more}
 use Rattle.inner.proofs.spread.Needs as need

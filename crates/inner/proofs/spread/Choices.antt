@@ -1,4 +1,4 @@
-use Prim.Native.Nat.{ℕ, _+_, _*_}
+use Prim.Native.Nat.{_+_, _*_}
 use Rattle.words.specs.Words.{word, bits}
 use Rattle.inner.proofs.Periods.{Spread}
 use Rattle.inner.proofs.spread.Given as given
