@@ -7,14 +7,16 @@ use mathlib.Core.Logic.{_⊎_, inl, inr}
 use Prim.Native.Nat.{ℕ, zero, suc, _+_, _-_, _*_, _/_, _%_, _<_, _≤_}
 use native.Mathlib.Omega.{arith}
 use native.Mathlib.Decide.{ℕ-discrete}
-use native.Mathlib.Nat.{mul-le-mul, mul-assoc, mul-comm, mul-left-comm}
+use native.Mathlib.Nat.{add-assoc, mul-le-mul, mul-le-mul-left, mul-assoc, mul-comm, mul-left-comm, mul-suc}
 use lib.Dec.{ltb}
+use lib.IntN.{ℤ, pos}
 use lib.ListN.{length, getD, set}
 use lib.Seq.{getD-set-same, getD-set-other}
 use borrow.Author.Tests.{lt-ltb, le-ltb}
-use Rattle.words.specs.Words.{Bits, Bytes, word, flags, bits}
-use Rattle.words.proofs.Bridge.{bits-same}
+use Rattle.words.specs.Words.{Bits, Bytes, word, flags, bits, value}
+use Rattle.words.proofs.Bridge.{bits-same, value-same}
 use Rattle.standard.specs.declared.order.Request.{Request}
+use Rattle.standard.specs.declared.point.Point.{Point}
 use Rattle.standard.specs.declared.profile.InnerRate.{InnerRate}
 use Rattle.standard.specs.declared.profile.InnerRate.the-variants.{Half, TwoThirds, ThreeQuarters, FiveSixths}
 use Rattle.standard.specs.declared.profile.Profile.{Profile}
@@ -29,7 +31,8 @@ use Rattle.inner_code.proofs.Coding.{coded-same}
 use Rattle.interleaver.specs.Interleaver.{Interleaved, size}
 use Rattle.interleaver.proofs.Laws.{permutation}
 use Rattle.interleaver.proofs.Writing.{symbol-ends}
-use Rattle.coder.specs.Sending.{band, profiled, filled, tailed, message, protected, coded-bits, symbol-bits, burst-bits, sent}
+use Rattle.constellation.specs.Constellation.{level, point, origin}
+use Rattle.coder.specs.Sending.{Sent, band, profiled, filled, tailed, message, protected, coded-bits, symbol-bits, burst-bits, sent}
 use Rattle.coder.proofs.Lawfulness.{sent-goes}
 
 -- one byte more
@@ -131,3 +134,44 @@ sent-done r d bs out m c i j h =
   where
     in-burst : (b k : ℕ) → b < r .symbols → k < symbol-bits r → symbol-bits r * b + k < burst-bits r
     in-burst b k hb hk = let e = symbol-ends (symbol-bits r) b (r .symbols) hb in omega arith
+
+-- ---- points
+abbrev in-line : ℕ → Point
+in-line v = record { i = level 1 v; q = pos 0 }
+
+abbrev level-pair : ℕ → ℕ → ℕ → Point
+level-pair w v u = record { i = level w v; q = level w u }
+
+module _ (a b : Bits) (t : ℕ) where
+  Alike : ℕ → Type 0
+  Alike c = (u : ℕ) → u < c → a (c * t + u) ≡ b (c * t + u)
+
+  same-half : (c w : ℕ) → w + w ≡ c → Alike c → (value w (λ u. a (c * t + u)) ≡ value w (λ u. b (c * t + u))) × (value w (λ u. a (c * t + w + u)) ≡ value w (λ u. b (c * t + w + u)))
+  unfolding Alike
+  same-half c w e h = (
+    value-same w (λ u. a (c * t + u)) (λ u. b (c * t + u)) (λ u l. h u (omega arith)),
+    value-same w (λ u. a (c * t + w + u)) (λ u. b (c * t + w + u)) (λ u l. ap a (add-assoc (c * t) w u) ∙ h (w + u) (omega arith) ∙ ap b (sym (add-assoc (c * t) w u))),
+  )
+
+  -- a point is known from its carrier's bits
+  pub point-same : (c : ℕ) → Modulation c → ((u : ℕ) → u < c → a (c * t + u) ≡ b (c * t + u)) → point c a t ≡ point c b t
+  unfolding Alike
+  point-same c (inl e) = subst (λ (c : ℕ). Alike c → point c a t ≡ point c b t) (sym e) (λ h. ap in-line (value-same 1 (λ u. a (1 * t + u)) (λ u. b (1 * t + u)) (λ u l. h u l)))
+  point-same c (inr (inl e)) = subst (λ (c : ℕ). Alike c → point c a t ≡ point c b t) (sym e) (λ h. let s = same-half 2 1 refl h in ap₂ (λ (x y : ℕ). level-pair 1 x y) (s .0) (s .1))
+  point-same c (inr (inr (inl e))) = subst (λ (c : ℕ). Alike c → point c a t ≡ point c b t) (sym e) (λ h. let s = same-half 4 2 refl h in ap₂ (λ (x y : ℕ). level-pair 2 x y) (s .0) (s .1))
+  point-same c (inr (inr (inr e))) = subst (λ (c : ℕ). Alike c → point c a t ≡ point c b t) (sym e) (λ h. let s = same-half 6 3 refl h in ap₂ (λ (x y : ℕ). level-pair 3 x y) (s .0) (s .1))
+
+pub points-done : (r : Request) (d : List ℕ) (bs : List Bool) (points : List Point) → Modulation (profiled r .bits) → length points ≡ 192 * r .symbols → ((j : ℕ) → j < burst-bits r → getD bs j false ≡ sent r d j)
+    → ((t : ℕ) → t < length points → getD points t origin ≡ point (profiled r .bits) (flags bs) t) → Sent r d points
+points-done r d bs points m e s p =
+    record {
+      count = e;
+      point = λ t h. p t (subst (λ (n : ℕ). t < n) (sym e) h) ∙ point-same (flags bs) (sent r d) t (profiled r .bits) m (λ u l. s (profiled r .bits * t + u) (in-burst (profiled r .bits) t u h l));
+    }
+  where
+    in-burst : (c t u : ℕ) → t < 192 * r .symbols → u < c → c * t + u < size band c * r .symbols
+    in-burst c t u h l =
+        let a = mul-le-mul-left c h in
+        let b : c * (192 * r .symbols) ≡ size band c * r .symbols = sym (mul-assoc c 192 (r .symbols)) ∙ ap (λ (x : ℕ). x * r .symbols) (mul-comm c 192) in
+        let e : c * suc t ≡ c * t + c = mul-suc c t in
+        omega arith

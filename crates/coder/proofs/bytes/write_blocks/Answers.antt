@@ -19,7 +19,7 @@ encode-requires c κs =
     let long : length (c .write-message .last .out) ≡ 864 = search needs in
     let m = within (c .symbols .result) (c .profile-profile .result .message) 108 few (f .small) in
     let b = within (c .symbols .result) (2 * c .profile-profile .result .limit + c .profile-profile .result .message) 120 few (omega (arith, f .parity, f .short)) in
-    record { some = omega (arith, f .some); short = omega (arith, f .small); few = f .correctable; number = few; there = omega arith; room = omega arith }
+    record { some = omega (arith, f .some); short = omega (arith, f .small); few = f .correctable; there = omega arith; room = omega arith }
 
 pub returns : need.returns
 returns c =
