@@ -31,13 +31,16 @@ abbrev pub used : Head → Option ℕ
 used (burst r d) = Some (9 + length d)
 used (broken m e) = None
 
+-- what follows a record of n bytes; nothing follows where the program stops
+abbrev pub followed : (ℕ → List ℕ) → Option ℕ → List ℕ
+followed f (Some n) = f n
+followed f None = []
+
 -- the lines of at most so many records, from a place on
 unfoldable pub lines : ℕ → ℕ → List ℕ → List ℕ
 lines zero place xs = []
 lines (suc most) place [] = []
-lines (suc most) place (x ∷ xs) =
-    line place (head (x ∷ xs))
-    ++ elim (used (head (x ∷ xs))) [ Some n ↦ lines most (place + n) (drop n (x ∷ xs)) | None ↦ [] ]
+lines (suc most) place (x ∷ xs) = line place (head (x ∷ xs)) ++ followed (λ n. lines most (place + n) (drop n (x ∷ xs))) (used (head (x ∷ xs)))
 
 -- the text that answers an input: no input has more records than bytes
 unfoldable pub text : ℕ → List ℕ → List ℕ

@@ -41,7 +41,14 @@ head xs =
       (cond (ltb (length xs) (9 + cond (ltb (length xs) 9) 0 (long-in xs))) (broken marks.Bu CutShort) (burst (request-in xs) (take (long-in xs) (drop 9 xs))))
       (broken marks.Unknown UnknownMark))
 
+-- a record that was read: its place, and what it is
+abbrev pub place-of : Record → ℕ
+place-of (records.Bu at r d) = at
+
+abbrev pub read-as : Record → Head
+read-as (records.Bu at r d) = burst r (d .now)
+
 -- what reading answers of the input from a place on
 abbrev pub Reads : ℕ → List ℕ → Result Record Fault → Type 0
-Reads place xs (Ok (records.Bu at r d)) = (at ≡ place) × (head xs ≡ burst r (d .now))
+Reads place xs (Ok record′) = (place-of record′ ≡ place) × (head xs ≡ read-as record′)
 Reads place xs (Err f) = head xs ≡ broken (f .mark) (f .refusal)

@@ -1,6 +1,7 @@
 //! The rack program's records: how they are read, and the text that answers an input.
-mod answer;
+mod answering;
 mod read;
 pub mod record;
 mod text;
-pub use answer::answer;
+pub use answering::answer_input;
+pub use answering::answer_record;
