@@ -29,7 +29,8 @@ fn write_coded(order: Order, payload: &[u8], coded: &mut [bool])
 // Writes the bits of the burst in the order sent.
 pub(crate) fn write_sent(order: Order, payload: &[u8], sent: &mut [bool])
     requires { ⌜ 9216 ≤ length (now sent) ⌝ }
-    ensures { λ _. ⌜ ((j : ℕ) → j < burst-bits (asked order) → getD (now (sent .exit)) j false ≡ sending (asked order) (now (payload .entry)) j) ⌝ }
+    ensures bits { λ _. ⌜ ((j : ℕ) → j < burst-bits (asked order) → getD (now (sent .exit)) j false ≡ sending (asked order) (now (payload .entry)) j) ⌝ }
+    ensures past { λ _. ⌜ ((j : ℕ) → burst-bits (asked order) ≤ j → getD (now (sent .exit)) j false ≡ getD (now (sent .entry)) j false) ⌝ }
 {
     let mut coded = [false; BURST_BITS];
     write_coded(order, payload, &mut coded);

@@ -1,4 +1,4 @@
-ghost use Prim.Native.Nat.{ℕ, _*_, _<_};
+ghost use Prim.Native.Nat.{ℕ, _*_, _<_, _≤_};
 ghost use Rattle.coder.specs.Sending.{Sent, burst-bits, sent as sending};
 ghost use Rattle.standard.specs.Refusals.{Accepted, asked, burst-rows, encode-rows, first, refused};
 ghost use Rattle.std.specs.Results.{isOk};
@@ -31,6 +31,7 @@ pub fn burst_bits(request: Request, payload: &[u8], sent: &mut [bool; BURST_BITS
     ensures kept { λ r. ⌜ (isOk r ≡ false → now (sent .exit) ≡ now (sent .entry)) ⌝ }
     ensures count { λ r. ⌜ made r (λ n. n ≡ burst-bits request) ⌝ }
     ensures bits { λ r. ⌜ made r (λ _. (j : ℕ) → j < burst-bits request → getD (now (sent .exit)) j false ≡ sending request (now (payload .entry)) j) ⌝ }
+    ensures past { λ r. ⌜ made r (λ _. (j : ℕ) → burst-bits request ≤ j → getD (now (sent .exit)) j false ≡ getD (now (sent .entry)) j false) ⌝ }
 {
     let order = accept_burst(request, payload.len())?;
     write_sent(order, payload, sent);

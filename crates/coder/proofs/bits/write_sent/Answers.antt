@@ -1,5 +1,5 @@
 use mathlib.Core.Path.{_≡_, subst}
-use Prim.Native.Nat.{ℕ, _≤_}
+use Prim.Native.Nat.{ℕ, _*_, _≤_}
 use native.Mathlib.Omega.{arith}
 use borrow.Author.Needs.{needs}
 use lib.ListN.{length}
@@ -7,7 +7,7 @@ use Rattle.words.specs.Words.{flags}
 use Rattle.standard.specs.declared.profile.Profile.{Profile}
 use Rattle.standard.specs.Profiles.{Modulation}
 use Rattle.standard.specs.Refusals.{asked}
-use Rattle.interleaver.specs.Interleaver.{Interleaved}
+use Rattle.interleaver.specs.Interleaver.{Interleaved, size}
 use Rattle.coder.specs.Sending.{band, profiled}
 use Rattle.coder.proofs.Steps.{few-bits, sent-done}
 use Rattle.coder.proofs.bits.write_sent.Needs as need
@@ -22,6 +22,12 @@ interleave-requires c κs =
 pub returns : need.returns
 returns c =
     let e : c .profile .result ≡ profiled (asked (c .args .order)) = c .profile .ensures .value in
-    sent-done (asked (c .args .order)) (c .args .payload .now) (c .write-coded .last .coded) (c .interleave .last .sent) (subst (λ (p : Profile). Modulation (p .bits)) e (c .profile .ensures .fits .modulation)) (c .write-coded .ensures)
-    (subst (λ (p : Profile). Interleaved band (p .bits) (c .args .order .symbols) (flags (c .write-coded .last .coded)) (flags (c .interleave .last .sent))) e
-      (subst (λ (n : ℕ). Interleaved band (c .profile .result .bits) n (flags (c .write-coded .last .coded)) (flags (c .interleave .last .sent))) (c .symbols .ensures) (c .interleave .ensures .interleaved)))
+    record {
+      bits =
+        sent-done (asked (c .args .order)) (c .args .payload .now) (c .write-coded .last .coded) (c .interleave .last .sent) (subst (λ (p : Profile). Modulation (p .bits)) e (c .profile .ensures .fits .modulation)) (c .write-coded .ensures)
+        (subst (λ (p : Profile). Interleaved band (p .bits) (c .args .order .symbols) (flags (c .write-coded .last .coded)) (flags (c .interleave .last .sent))) e
+          (subst (λ (n : ℕ). Interleaved band (c .profile .result .bits) n (flags (c .write-coded .last .coded)) (flags (c .interleave .last .sent))) (c .symbols .ensures) (c .interleave .ensures .interleaved)));
+      past =
+        subst (λ (p : Profile). (j : ℕ) → size band (p .bits) * c .args .order .symbols ≤ j → flags (c .interleave .last .sent) j ≡ flags (c .args .sent .now) j) e
+        (subst (λ (n : ℕ). (j : ℕ) → size band (c .profile .result .bits) * n ≤ j → flags (c .interleave .last .sent) j ≡ flags (c .args .sent .now) j) (c .symbols .ensures) (c .interleave .ensures .rest));
+    }
