@@ -104,6 +104,9 @@ axis-one b x y w e = value-one b x y (level-one b (value b x) (value b y) w (val
 pub carried : Carried
 carried =
     record {
+      i-level = λ c sent t. record { named = in-phase c sent t; below = value-below (width c) (λ u. sent (c * t + u)); value = refl };
+      q-level = λ c sent t h. record { named = quadrature c sent t; below = value-below (width c) (λ u. sent (c * t + width c + u)); value = q-is c sent t h };
+      q-none = λ sent t. refl;
       i-within = λ c sent t m. level-within (width c) (in-phase c sent t) (width-of c m) (value-below (width c) (λ u. sent (c * t + u)));
       q-within = reach;
       one-to-one = λ c a b t m e u h. elim (decLt u (width c)) [

@@ -4,7 +4,7 @@ use mathlib.Core.Path.{_≡_}
 use mathlib.Core.Bool.{cond}
 use mathlib.Core.List.{List, [], _∷_}
 use mathlib.Core.Logic.{_⊎_}
-use Prim.Native.Nat.{ℕ, zero, suc, _+_, _*_, _/_, _<_, _≤_, max}
+use Prim.Native.Nat.{ℕ, zero, suc, _+_, _*_, _/_, _^_, _<_, _≤_, max}
 use lib.Dec.{eqb}
 use lib.IntN.{ℤ, pos, negsuc, _*ℤ_, natAbs}
 use lib.ListN.{getD}
@@ -48,8 +48,18 @@ point c sent t =
 abbrev pub origin : Point
 origin = record { i = pos 0; q = pos 0 }
 
+-- x is a level of an axis of b bits
+pub record Level (b : ℕ) (x : ℤ) : Type 0 where
+  pub named : ℕ
+  pub below : named < 2 ^ b
+  pub value : x ≡ level b named
+
 -- What points keep of their bits, for every modulation.
 pub record Carried : Type 0 where
+  -- every point is one of its modulation's
+  pub i-level : (c : ℕ) (sent : Bits) (t : ℕ) → Level (width c) (point c sent t .i)
+  pub q-level : (c : ℕ) (sent : Bits) (t : ℕ) → 1 < c → Level (width c) (point c sent t .q)
+  pub q-none : (sent : Bits) (t : ℕ) → point 1 sent t .q ≡ pos 0
   -- no axis is farther out than 1,792 counts
   pub i-within : (c : ℕ) (sent : Bits) (t : ℕ) → Modulation c → natAbs (point c sent t .i) ≤ 1792
   pub q-within : (c : ℕ) (sent : Bits) (t : ℕ) → Modulation c → natAbs (point c sent t .q) ≤ 1792
