@@ -21,8 +21,8 @@ abbrev pub firsts : ℕ → Bits → List Bool
 firsts zero a = []
 firsts (suc n) a = a 0 ∷ firsts n (λ k. a (suc k))
 
-abbrev request : ℕ → ℕ → Request
-request rate n = record { rate = rate; bsid = 1; uiuc = 7; frame = 1; symbols = n }
+abbrev asking : ℕ → ℕ → Request
+asking rate n = record { rate = rate; bsid = 1; uiuc = 7; frame = 1; symbols = n }
 
 pub record Cases : Type 0 where
   -- station 1, usage 7, frame 1: the stages, and 45 29 becomes D4 BA
@@ -39,9 +39,9 @@ pub record Cases : Type 0 where
   -- 011101 in 64-QAM is 1,792 and -256
   pub mapped : point 6 (λ k. getD (false ∷ true ∷ true ∷ true ∷ false ∷ true ∷ []) k false) 0 ≡ record { i = pos 1792; q = negsuc 255 }
   -- rate 2, one symbol: 35 bytes are accepted, and 36 are refused with 4
-  pub fits : first (encode-rows (request 2 1) 35 192) ≡ None
-  pub too-long : first (encode-rows (request 2 1) 36 192) ≡ Some DataLength
+  pub fits : first (encode-rows (asking 2 1) 35 192) ≡ None
+  pub too-long : first (encode-rows (asking 2 1) 36 192) ≡ Some DataLength
   -- rate 6, eight symbols: 863 and 864
-  pub fits-all : first (encode-rows (request 6 8) 863 1536) ≡ None
-  pub too-long-for-all : first (encode-rows (request 6 8) 864 1536) ≡ Some DataLength
+  pub fits-all : first (encode-rows (asking 6 8) 863 1536) ≡ None
+  pub too-long-for-all : first (encode-rows (asking 6 8) 864 1536) ≡ Some DataLength
   pub told : number DataLength ≡ 4

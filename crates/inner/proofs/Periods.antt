@@ -17,7 +17,7 @@ use Rattle.standard.specs.declared.profile.InnerRate.the-variants.{Half, TwoThi
 use Rattle.standard.specs.declared.profile.Coded.{Coded}
 use Rattle.standard.specs.declared.profile.Coded.the-variants.{X1}
 use Rattle.inner_code.specs.Inner.{x, y, pattern, coded, Rated, half, two-thirds, three-quarters, five-sixths}
-use Rattle.inner_code.proofs.Coding.{standing}
+use Rattle.inner_code.proofs.Coding.{located}
 use Rattle.inner.specs.Outputs.{kept}
 
 -- period q is one of n periods
@@ -123,7 +123,7 @@ pub encoded : (r : InnerRate) (u a b : Bits) (n : ℕ) (new : List Bool)
     → (j : ℕ) → j < (period r + 1) * n → getD new j false ≡ coded (period r) u j
 unfolding coded
 encoded r u a b n new f g h j l =
-    let s = standing (period r) n j (rated r) l in
+    let s = located (period r) n j (rated r) l in
     let m = longest (period r) (rated r) in
     let o : j % (period r + 1) < period r + 1 = omega (arith, s .place) in
     ap (λ (z : ℕ). getD new z false) (sym (s .split))

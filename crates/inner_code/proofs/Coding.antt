@@ -106,23 +106,23 @@ pattern-same u v n k p (suc (suc (suc (suc (suc zero))))) r h l m = x-same u v n
 pattern-same u v n k p (suc (suc (suc (suc (suc (suc i)))))) r h l m = refl
 
 -- where coded bit j of q periods stands
-pub record Standing (p q j : ℕ) : Type 0 where
+pub record Located (p q j : ℕ) : Type 0 where
   pub some : 0 < p
   pub within : j / (p + 1) < q
   pub period : p * (j / (p + 1)) + p ≤ p * q
   pub place : j % (p + 1) ≤ p
   pub split : (p + 1) * (j / (p + 1)) + j % (p + 1) ≡ j
 
-pub standing : (p q j : ℕ) → Rated p → j < (p + 1) * q → Standing p q j
-standing p q j half l = omega arith
-standing p q j two-thirds l = omega arith
-standing p q j three-quarters l = omega arith
-standing p q j five-sixths l = omega arith
+pub located : (p q j : ℕ) → Rated p → j < (p + 1) * q → Located p q j
+located p q j half l = omega arith
+located p q j two-thirds l = omega arith
+located p q j three-quarters l = omega arith
+located p q j five-sixths l = omega arith
 
 pub coded-same : (p q : ℕ) (u v : Bits) → Rated p → ((k : ℕ) → k < p * q → u k ≡ v k) → (j : ℕ) → j < (p + 1) * q → coded p u j ≡ coded p v j
 unfolding coded
 coded-same p q u v r h j l =
-    let s = standing p q j r l in
+    let s = located p q j r l in
     pattern-same u v (p * q) (p * (j / (p + 1))) p (j % (p + 1)) (s .some) h (s .period) (s .place)
 
 record Split (p q i j : ℕ) : Type 0 where

@@ -33,7 +33,7 @@ request-in xs = record { rate = getD xs 2 0; bsid = getD xs 3 0; uiuc = getD xs 
 abbrev pub long-in : List ℕ → ℕ
 long-in xs = 256 * getD xs 7 0 + getD xs 8 0
 
--- the input from a place on, some byte standing there; what is wrong with the mark is told first
+-- what begins at a place of the input, which is not its end; what is wrong with the mark is told first
 abbrev pub head : List ℕ → Head
 head xs =
     cond (ltb (length xs) 2) (broken marks.Unknown CutShort)

@@ -27,7 +27,7 @@ pub impl fmt::Display for Mark as MarkDisplay {
 }
 
 // A line's beginning: place, mark and answer, parted by one space.
-pub fn begin_line(heap: Global, place: usize, mark: Mark, answer: u8) -> Result<String, AllocError>
+pub(crate) fn begin_line(heap: Global, place: usize, mark: Mark, answer: u8) -> Result<String, AllocError>
     ensures { λ r. ⌜ made r (λ s. string-bytes s ≡ begun place mark answer) ⌝ }
 {
     format!(heap, "{place} {mark} {answer}")
@@ -55,7 +55,7 @@ fn nibble(bits: &[bool], at: usize) -> u8
 }
 
 // Adds the first bits, four to a hexadecimal capital.
-pub fn push_hex(line: &mut String, bits: &[bool], digits: usize) -> Result<(), AllocError>
+pub(crate) fn push_hex(line: &mut String, bits: &[bool], digits: usize) -> Result<(), AllocError>
     requires { ⌜ 4 * digits ≤ length (now bits) ⌝ }
     ensures { λ r. ⌜ made r (λ _. string-bytes (now (line .exit)) ≡ string-bytes (now (line .entry)) ++ hex digits (flags (now (bits .entry)))) ⌝ }
 {
