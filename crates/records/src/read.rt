@@ -11,7 +11,18 @@ impl<'a> Record<'a> {
         ensures { λ r. ⌜ Reads place (now (rest .entry)) r ⌝ }
     {
         match rest {
-            [b'B', b'U', rate, bsid, uiuc, frame, symbols, high, low, tail @ ..] => {
+            [
+                b'B',
+                b'U',
+                rate,
+                bsid,
+                uiuc,
+                frame,
+                symbols,
+                high,
+                low,
+                tail @ ..,
+            ] => {
                 let request = Request {
                     rate: *rate as u32,
                     bsid: *bsid as u32,
@@ -21,13 +32,29 @@ impl<'a> Record<'a> {
                 };
                 let long = *high as usize * 256 + *low as usize;
                 if tail.len() < long {
-                    return Err(Fault { mark: Mark::Bu, refusal: Refusal::CutShort });
+                    return Err(Fault {
+                        mark: Mark::Bu,
+                        refusal: Refusal::CutShort,
+                    });
                 }
-                Ok(Record::Bu { place, request, payload: &tail[0..long] })
+                Ok(Record::Bu {
+                    place,
+                    request,
+                    payload: &tail[0..long],
+                })
             }
-            [b'B', b'U', ..] => Err(Fault { mark: Mark::Bu, refusal: Refusal::CutShort }),
-            [_, _, ..] => Err(Fault { mark: Mark::Unknown, refusal: Refusal::UnknownMark }),
-            _ => Err(Fault { mark: Mark::Unknown, refusal: Refusal::CutShort }),
+            [b'B', b'U', ..] => Err(Fault {
+                mark: Mark::Bu,
+                refusal: Refusal::CutShort,
+            }),
+            [_, _, ..] => Err(Fault {
+                mark: Mark::Unknown,
+                refusal: Refusal::UnknownMark,
+            }),
+            _ => Err(Fault {
+                mark: Mark::Unknown,
+                refusal: Refusal::CutShort,
+            }),
         }
     }
 }

@@ -24,4 +24,4 @@ returns c =
     let e : c .profile .result ≡ profiled (asked (c .args .order)) = c .profile .ensures .value in
     sent-done (asked (c .args .order)) (c .args .payload .now) (c .write-coded .last .coded) (c .interleave .last .sent) (subst (λ (p : Profile). Modulation (p .bits)) e (c .profile .ensures .fits .modulation)) (c .write-coded .ensures)
     (subst (λ (p : Profile). Interleaved band (p .bits) (c .args .order .symbols) (flags (c .write-coded .last .coded)) (flags (c .interleave .last .sent))) e
-      (subst (λ (n : ℕ). Interleaved band (c .profile .result .bits) n (flags (c .write-coded .last .coded)) (flags (c .interleave .last .sent))) (c .symbols .ensures) (c .interleave .ensures .interleaved)))
+    (subst (λ (n : ℕ). Interleaved band (c .profile .result .bits) n (flags (c .write-coded .last .coded)) (flags (c .interleave .last .sent))) (c .symbols .ensures) (c .interleave .ensures .interleaved)))

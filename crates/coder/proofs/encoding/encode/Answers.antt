@@ -22,8 +22,8 @@ returns c =
       answer = search needs;
       kept = search needs;
       points = subst (λ (r : Request). Sent r (c .args .payload .now) (c .map .last .points)) (c .in-Continue-order .ensures tt .order)
-        (points-done (asked (c .in-Continue-order .order)) (c .args .payload .now) (c .write-sent .last .sent) (c .map .last .points)
+          (points-done (asked (c .in-Continue-order .order)) (c .args .payload .now) (c .write-sent .last .sent) (c .map .last .points)
           (subst (λ (p : Profile). Modulation (p .bits)) e (c .profile .ensures .fits .modulation)) long (c .write-sent .ensures)
           (subst (λ (p : Profile). (t : ℕ) → t < length (c .map .last .points) → getD (c .map .last .points) t origin ≡ point (p .bits) (flags (c .write-sent .last .sent)) t) e
-            (subst (λ (n : ℕ). (t : ℕ) → t < n → getD (c .map .last .points) t origin ≡ point (c .profile .result .bits) (flags (c .write-sent .last .sent)) t) same (c .map .ensures))));
+          (subst (λ (n : ℕ). (t : ℕ) → t < n → getD (c .map .last .points) t origin ≡ point (c .profile .result .bits) (flags (c .write-sent .last .sent)) t) same (c .map .ensures))));
     }
