@@ -48,9 +48,9 @@ module _ (r : Request) (d : List ℕ) (m : Modulation (profiled r .bits)) where
   sent-goes =
       record {
         goes = λ b k hb hk.
-          let at = in-symbol (symbol-bits r) b (place band (profiled r .bits) k) symbol-pos (permutation .below band (profiled r .bits) k (omega arith) m hk) in
-          ap₂ (λ (x y : ℕ). coded-bits r d (symbol-bits r * x + source band (profiled r .bits) y)) (at .0) (at .1)
-          ∙ ap (λ (x : ℕ). coded-bits r d (symbol-bits r * b + x)) (permutation .there-back band (profiled r .bits) k (omega arith) m hk);
+            let at = in-symbol (symbol-bits r) b (place band (profiled r .bits) k) symbol-pos (permutation .below band (profiled r .bits) k (omega arith) m hk) in
+            ap₂ (λ (x y : ℕ). coded-bits r d (symbol-bits r * x + source band (profiled r .bits) y)) (at .0) (at .1)
+            ∙ ap (λ (x : ℕ). coded-bits r d (symbol-bits r * b + x)) (permutation .there-back band (profiled r .bits) k (omega arith) m hk);
       }
 
 words : (r : Request) (d : List ℕ) → Fitting (profiled r) → (b : ℕ) → Outer (profiled r .message) (profiled r .limit) (part (profiled r .block) (profiled r .block * b) (protected r d))

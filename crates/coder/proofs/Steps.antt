@@ -123,7 +123,7 @@ coded-done r d blocks bs q p b c j h =
     let l : j < (period (profiled r .inner) + 1) * q = subst (λ (n : ℕ). j < n) (sym (p .coded)) h in
     c j l
     ∙ coded-same (period (profiled r .inner)) q (bits (word blocks)) (bits (protected r d)) (rated (profiled r .inner))
-      (λ k m. bits-same (word blocks) (protected r d) (r .symbols * profiled r .block) b k (subst (λ (n : ℕ). k < n) (sym (p .whole)) m)) j l
+    (λ k m. bits-same (word blocks) (protected r d) (r .symbols * profiled r .block) b k (subst (λ (n : ℕ). k < n) (sym (p .whole)) m)) j l
 
 -- ---- the order sent
 pub sent-done : (r : Request) (d : List ℕ) (bs out : List Bool) → Modulation (profiled r .bits) → ((j : ℕ) → j < burst-bits r → getD bs j false ≡ coded-bits r d j)

@@ -23,7 +23,13 @@ fn write_coded(order: Order, payload: &[u8], coded: &mut [bool])
     let count = order.symbols() * profile.block;
     let mut blocks = [0u8; BLOCK_BYTES];
     write_blocks(order, payload, &mut blocks);
-    inner::encode(profile.inner, &blocks, count, 8 * count / profile.inner.period(), coded);
+    inner::encode(
+        profile.inner,
+        &blocks,
+        count,
+        8 * count / profile.inner.period(),
+        coded,
+    );
 }
 
 // Writes the bits of the burst in the order sent.

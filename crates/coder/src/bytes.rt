@@ -5,8 +5,10 @@ ghost use lib.ListN.{getD, length};
 ghost use mathlib.Core.Path.{_≡_};
 use standard::order::Order;
 
-// The most bytes that a burst has before and after the outer step.
+// The most bytes that a burst has before the outer step.
 const MESSAGE_BYTES: usize = 864;
+
+// The most bytes that a burst has after the outer step.
 pub const BLOCK_BYTES: usize = 960;
 
 // Writes the data, filled up with FF, into the first `count` bytes.
@@ -39,5 +41,11 @@ pub(crate) fn write_blocks(order: Order, payload: &[u8], out: &mut [u8])
     let profile = order.profile();
     let mut message = [0u8; MESSAGE_BYTES];
     write_message(order, payload, &mut message);
-    outer::encode(profile.message, profile.limit, order.symbols(), &message, out);
+    outer::encode(
+        profile.message,
+        profile.limit,
+        order.symbols(),
+        &message,
+        out,
+    );
 }

@@ -26,7 +26,11 @@ fn accept_burst(request: Request, long: usize) -> Result<Order, Refusal>
 }
 
 // The bits of the burst that carries the data, in the order sent; the answer is how many. A refusal changes nothing.
-pub fn burst_bits(request: Request, payload: &[u8], sent: &mut [bool; BURST_BITS]) -> Result<usize, Refusal>
+pub fn burst_bits(
+    request: Request,
+    payload: &[u8],
+    sent: &mut [bool; BURST_BITS],
+) -> Result<usize, Refusal>
     ensures answer { λ r. ⌜ refused r ≡ first (burst-rows request (length (now (payload .entry)))) ⌝ }
     ensures kept { λ r. ⌜ (isOk r ≡ false → now (sent .exit) ≡ now (sent .entry)) ⌝ }
     ensures count { λ r. ⌜ made r (λ n. n ≡ burst-bits request) ⌝ }

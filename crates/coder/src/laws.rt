@@ -10,11 +10,9 @@ ghost use mathlib.Core.Path.{_≡_};
 // What holds of every burst of an accepted request: see the contract.
 pub fn bursts_are_lawful()
     ensures { λ _. ⌜ ((r : Request) (d : List ℕ) → first (request-rows r) ≡ None → Lawful r d) ⌝ }
-{
-}
+{}
 
 // Cases of the rules, worked: see the contract.
 pub fn worked_cases()
     ensures { λ _. ⌜ Cases ⌝ }
-{
-}
+{}

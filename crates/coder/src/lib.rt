@@ -3,6 +3,7 @@ mod bits;
 mod bytes;
 mod encoding;
 mod laws;
+
 pub use bits::BURST_BITS;
 pub use encoding::burst_bits;
 pub use encoding::encode;

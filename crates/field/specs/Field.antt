@@ -6,7 +6,6 @@ use lib.Bits.{bitXor}
 
 infixl 60 _⊕_
 infixl 70 _⊗_
-
 -- the sum; also the difference
 unfoldable pub _⊕_ : ℕ → ℕ → ℕ
 a ⊕ b = bitXor a b

@@ -18,6 +18,30 @@ use Rattle.outer_code.proofs.Blocks.{blocks-message, blocks-parity, blocks-oute
 pub block-fits : (n b count : ℕ) → b < count → n * b + n ≤ count * n
 block-fits n b count h = let m = mul-le-mul-left n h in let e = mul-comm count n in omega arith
 
+-- the first b blocks of n bytes are those of f, and what stands behind them is as it was
+pub record Written (f : ℕ → ℕ) (n b : ℕ) (old new : List ℕ) : Type 0 where
+  pub inside : (i : ℕ) → i < b * n → getD new i 0 ≡ f i
+  pub behind : (k : ℕ) → b * n ≤ k → getD new k 0 ≡ getD old k 0
+
+-- one block more
+pub written-more : (f : ℕ → ℕ) (n b : ℕ) (first old new : List ℕ) → Written f n b first old
+    → ((t : ℕ) → t < n → getD new (n * b + t) 0 ≡ f (n * b + t))
+    → ((k : ℕ) → k < n * b → getD new k 0 ≡ getD old k 0)
+    → ((k : ℕ) → n * b + n ≤ k → getD new k 0 ≡ getD old k 0)
+    → Written f n (b + 1) first new
+written-more f n b first old new so here kept past =
+    let c : b * n ≡ n * b = mul-comm b n in
+    let c' : (b + 1) * n ≡ b * n + n = omega arith in
+    record {
+      inside = λ i h. elim (decLe (n * b) i) [
+        | yes l ↦
+            (let e : n * b + (i - n * b) ≡ i = omega arith in
+            subst (λ (m : ℕ). getD new m 0 ≡ f m) e (here (i - n * b) (omega arith)))
+        | no l ↦ kept i (omega arith) ∙ so .inside i (omega arith)
+      ];
+      behind = λ k h. past k (omega arith) ∙ so .behind k (omega arith);
+    }
+
 module _ (size limit : ℕ) (some : 0 < size) (few : limit ≤ 8) (w : Bytes) where
   abbrev N : ℕ
   N = 2 * limit + size
@@ -40,20 +64,6 @@ module _ (size limit : ℕ) (some : 0 < size) (few : limit ≤ 8) (w : Bytes) wh
             let z : 0 + t ≡ t = omega arith in
             kept (N * b + t) (omega arith) ∙ first t h' ∙ ap (λ (m : ℕ). getD parity m 0) z ∙ ap (λ (p : List ℕ). getD p t 0) is
             ∙ sym (blocks-parity size limit some few w b t h'))
-      ]
-
-  -- one block more
-  pub blocks-more : (b : ℕ) (old new : List ℕ) → ((i : ℕ) → i < b * (2 * limit + size) → getD old i 0 ≡ blocks size limit w i)
-      → ((t : ℕ) → t < 2 * limit + size → getD new ((2 * limit + size) * b + t) 0 ≡ blocks size limit w ((2 * limit + size) * b + t))
-      → ((k : ℕ) → k < (2 * limit + size) * b → getD new k 0 ≡ getD old k 0)
-      → (i : ℕ) → i < (b + 1) * (2 * limit + size) → getD new i 0 ≡ blocks size limit w i
-  blocks-more b old new so here kept i h =
-      let c : b * N ≡ N * b = mul-comm b N in
-      elim (decLe (N * b) i) [
-        | yes l ↦
-            (let e : N * b + (i - N * b) ≡ i = omega arith in
-            subst (λ (m : ℕ). getD new m 0 ≡ blocks size limit w m) e (here (i - N * b) (omega arith)))
-        | no l ↦ kept i (omega arith) ∙ so i (omega arith)
       ]
 
   -- what is written are outer words

@@ -73,6 +73,7 @@ fn copy(source: &[u8], from: usize, count: usize, coded: &mut [u8], at: usize)
     requires room { ⌜ at + count ≤ length (now coded) ⌝ }
     ensures copied { λ _. ⌜ ((k : ℕ) → k < count → getD (now (coded .exit)) (at + k) 0 ≡ getD (now (source .entry)) (from + k) 0) ⌝ }
     ensures kept { λ _. ⌜ ((k : ℕ) → k < at → getD (now (coded .exit)) k 0 ≡ getD (now (coded .entry)) k 0) ⌝ }
+    ensures past { λ _. ⌜ ((k : ℕ) → at + count ≤ k → getD (now (coded .exit)) k 0 ≡ getD (now (coded .entry)) k 0) ⌝ }
 {
     for k in 0..count {
         coded[at + k] = source[from + k];
@@ -87,6 +88,7 @@ fn encode_block(size: usize, limit: usize, b: usize, message: &[u8], coded: &mut
     requires room { ⌜ (2 * limit + size) * b + (2 * limit + size) ≤ length (now coded) ⌝ }
     ensures coded { λ _. ⌜ ((t : ℕ) → t < 2 * limit + size → getD (now (coded .exit)) ((2 * limit + size) * b + t) 0 ≡ blocks size limit (word (now (message .entry))) ((2 * limit + size) * b + t)) ⌝ }
     ensures kept { λ _. ⌜ ((k : ℕ) → k < (2 * limit + size) * b → getD (now (coded .exit)) k 0 ≡ getD (now (coded .entry)) k 0) ⌝ }
+    ensures past { λ _. ⌜ ((k : ℕ) → (2 * limit + size) * b + (2 * limit + size) ≤ k → getD (now (coded .exit)) k 0 ≡ getD (now (coded .entry)) k 0) ⌝ }
 {
     let from = size * b;
     let at = (2 * limit + size) * b;
@@ -103,6 +105,7 @@ pub fn encode(size: usize, limit: usize, count: usize, message: &[u8], coded: &m
     requires there { ⌜ count * size ≤ length (now message) ⌝ }
     requires room { ⌜ count * (2 * limit + size) ≤ length (now coded) ⌝ }
     ensures coded { λ _. ⌜ ((i : ℕ) → i < count * (2 * limit + size) → getD (now (coded .exit)) i 0 ≡ blocks size limit (word (now (message .entry))) i) ⌝ }
+    ensures past { λ _. ⌜ ((k : ℕ) → count * (2 * limit + size) ≤ k → getD (now (coded .exit)) k 0 ≡ getD (now (coded .entry)) k 0) ⌝ }
     ensures words { λ _. ⌜ ((b : ℕ) → b < count → Outer size limit (part (2 * limit + size) ((2 * limit + size) * b) (word (now (coded .exit))))) ⌝ }
 {
     for b in 0..count {

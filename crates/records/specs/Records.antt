@@ -38,8 +38,8 @@ abbrev pub head : List ℕ → Head
 head xs =
     cond (ltb (length xs) 2) (broken marks.Unknown CutShort)
     (cond (marked xs)
-      (cond (ltb (length xs) (9 + cond (ltb (length xs) 9) 0 (long-in xs))) (broken marks.Bu CutShort) (burst (request-in xs) (take (long-in xs) (drop 9 xs))))
-      (broken marks.Unknown UnknownMark))
+    (cond (ltb (length xs) (9 + cond (ltb (length xs) 9) 0 (long-in xs))) (broken marks.Bu CutShort) (burst (request-in xs) (take (long-in xs) (drop 9 xs))))
+    (broken marks.Unknown UnknownMark))
 
 -- a record that was read: its place, and what it is
 abbrev pub place-of : Record → ℕ

@@ -22,7 +22,12 @@ use std::alloc::AllocError;
 use std::alloc::Global;
 
 // The line of a record that is refused.
-fn refused_line(heap: Global, place: usize, mark: Mark, refusal: Refusal) -> Result<String, AllocError>
+fn refused_line(
+    heap: Global,
+    place: usize,
+    mark: Mark,
+    refusal: Refusal,
+) -> Result<String, AllocError>
     ensures { λ r. ⌜ made r (λ s. string-bytes s ≡ begun place mark (number refusal) ++ newline) ⌝ }
 {
     let mut line = begin_line(heap, place, mark, refusal.number())?;
@@ -43,7 +48,12 @@ fn sent_line(heap: Global, place: usize, sent: &[bool], digits: usize) -> Result
 }
 
 // The line of a burst.
-fn burst_line(heap: Global, place: usize, request: Request, payload: &[u8]) -> Result<String, AllocError>
+fn burst_line(
+    heap: Global,
+    place: usize,
+    request: Request,
+    payload: &[u8],
+) -> Result<String, AllocError>
     ensures { λ r. ⌜ made r (λ s. string-bytes s ≡ burst-line place request (now (payload .entry)) (first (burst-rows request (length (now (payload .entry)))))) ⌝ }
 {
     let mut sent = [false; BURST_BITS];
@@ -59,7 +69,11 @@ fn answer_whole(heap: Global, whole: Record<'_>) -> Result<(String, usize), Allo
     ensures used { λ r. ⌜ made r (λ a. Some (a .1) ≡ used (read-as (whole .entry))) ⌝ }
 {
     match whole {
-        Record::Bu { place, request, payload } => {
+        Record::Bu {
+            place,
+            request,
+            payload,
+        } => {
             let line = burst_line(heap, place, request, payload)?;
             Ok((line, 9 + payload.len()))
         }
@@ -67,7 +81,11 @@ fn answer_whole(heap: Global, whole: Record<'_>) -> Result<(String, usize), Allo
 }
 
 // The line of the record that begins at a place, and how many bytes it takes; none where the program stops.
-pub fn answer_record(heap: Global, place: usize, rest: &[u8]) -> Result<(String, Option<usize>), AllocError>
+pub fn answer_record(
+    heap: Global,
+    place: usize,
+    rest: &[u8],
+) -> Result<(String, Option<usize>), AllocError>
     ensures line { λ r. ⌜ made r (λ a. string-bytes (a .0) ≡ line place (head (now (rest .entry)))) ⌝ }
     ensures used { λ r. ⌜ made r (λ a. a .1 ≡ used (head (now (rest .entry)))) ⌝ }
 {

@@ -3,5 +3,6 @@ mod answering;
 mod read;
 pub mod record;
 mod text;
+
 pub use answering::answer_input;
 pub use answering::answer_record;

@@ -24,5 +24,4 @@ pub fn digit(b: bool) -> u8
 pub fn bytes_are_bits()
     ensures packed { λ _. ⌜ ((u : Bits) (k : ℕ) → bits (bytes u) k ≡ u k) ⌝ }
     ensures unpacked { λ _. ⌜ ((w : Bytes) (i : ℕ) → w i < 256 → bytes (bits w) i ≡ w i) ⌝ }
-{
-}
+{}

@@ -1,11 +1,10 @@
 use mathlib.Core.Path.{_≡_, subst}
-use lib.ListN.{getD}
 use Rattle.outer_code.specs.Blocks.{blocks}
 use native.Mathlib.Omega.{arith}
 use Prim.Native.Nat.{ℕ, _+_, _*_, _<_}
 use borrow.Author.Needs.{needs}
 use Rattle.words.specs.Words.{Bytes, word}
-use Rattle.outer.proofs.Encoding.{block-fits, blocks-more, written-outer}
+use Rattle.outer.proofs.Encoding.{Written, block-fits, written-more, written-outer}
 use Rattle.outer.proofs.encode.Needs as need
 
 pub encode-block-requires : need.encode-block-requires
@@ -16,16 +15,18 @@ encode-block-requires c κs =
 
 pub loop-b-again : need.loop-b-again
 loop-b-again c =
-    blocks-more (c .args .size) (c .args .limit) (c .pre .some) (c .pre .few) (word (c .args .message .now)) (c .loop-b .b) (c .loop-b .coded) (c .encode-block .last .coded)
-    (c .loop-b .inv) (c .encode-block .ensures .coded) (c .encode-block .ensures .kept)
+    written-more (blocks (c .args .size) (c .args .limit) (word (c .args .message .now))) (2 * c .args .limit + c .args .size) (c .loop-b .b)
+    (c .args .coded .now) (c .loop-b .coded) (c .encode-block .last .coded)
+    (c .loop-b .inv) (c .encode-block .ensures .coded) (c .encode-block .ensures .kept) (c .encode-block .ensures .past)
 
 pub returns : need.returns
 returns c =
     let w : Bytes = word (c .args .message .now) in
     let bytes : (i : ℕ) → w i < 256 = search needs in
-    let so = subst (λ (b : ℕ). (i : ℕ) → i < b * (2 * c .args .limit + c .args .size) → getD (c .loop-b .coded) i 0 ≡ blocks (c .args .size) (c .args .limit) w i)
+    let so = subst (λ (b : ℕ). Written (blocks (c .args .size) (c .args .limit) w) (2 * c .args .limit + c .args .size) b (c .args .coded .now) (c .loop-b .coded))
     (let e : c .loop-b .b ≡ c .args .count = omega arith in e) (c .loop-b .inv) in
     record {
-      coded = so;
-      words = written-outer (c .args .size) (c .args .limit) (c .pre .some) (c .pre .few) w (c .pre .short) bytes (c .args .count) (c .loop-b .coded) so;
+      coded = so .inside;
+      past = so .behind;
+      words = written-outer (c .args .size) (c .args .limit) (c .pre .some) (c .pre .few) w (c .pre .short) bytes (c .args .count) (c .loop-b .coded) (so .inside);
     }

@@ -12,4 +12,5 @@ returns c =
           (c .parity-parity .result) (c .copy .last .coded) (c .copy-2 .last .coded) (c .parity-parity .ensures)
           (c .copy .ensures .copied) (c .copy-2 .ensures .kept) (c .copy-2 .ensures .copied);
       kept = λ k h. c .copy-2 .ensures .kept k (omega arith) ∙ c .copy .ensures .kept k h;
+      past = λ k h. c .copy-2 .ensures .past k (omega arith) ∙ c .copy .ensures .past k (omega arith);
     }

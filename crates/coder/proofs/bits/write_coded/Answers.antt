@@ -28,8 +28,8 @@ returns c =
     let e : c .profile-profile .result ≡ profiled (asked (c .args .order)) = c .profile-profile .ensures .value in
     coded-done (asked (c .args .order)) (c .args .payload .now) (c .write-blocks .last .out) (c .encode .last .coded) (8 * (c .symbols .result * c .profile-profile .result .block) / c .period .result)
     (subst (λ (n : ℕ). Periods (period (profiled (asked (c .args .order)) .inner)) n (profiled (asked (c .args .order)) .block) (profiled (asked (c .args .order)) .bits) (8 * (c .symbols .result * c .profile-profile .result .block) / c .period .result)) (c .symbols .ensures)
-      (subst (λ (p : Profile). Periods (period (p .inner)) (c .symbols .result) (p .block) (p .bits) (8 * (c .symbols .result * c .profile-profile .result .block) / c .period .result)) e
-        (counted (c .profile-profile .result) (c .symbols .result) (c .period .result) (c .profile-profile .ensures .fits) (c .period .ensures))))
+    (subst (λ (p : Profile). Periods (period (p .inner)) (c .symbols .result) (p .block) (p .bits) (8 * (c .symbols .result * c .profile-profile .result .block) / c .period .result)) e
+    (counted (c .profile-profile .result) (c .symbols .result) (c .period .result) (c .profile-profile .ensures .fits) (c .period .ensures))))
     (c .write-blocks .ensures)
     (subst (λ (p : Profile). (j : ℕ) → j < (period (p .inner) + 1) * (8 * (c .symbols .result * c .profile-profile .result .block) / c .period .result) → getD (c .encode .last .coded) j false ≡ coded (period (p .inner)) (bits (word (c .write-blocks .last .out))) j) e
-      (c .encode .ensures .encoded))
+    (c .encode .ensures .encoded))

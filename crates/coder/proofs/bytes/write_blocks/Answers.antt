@@ -27,4 +27,4 @@ returns c =
     let e : p ≡ profiled (asked (c .args .order)) = c .profile-profile .ensures .value in
     blocks-done (asked (c .args .order)) (c .args .payload .now) (c .write-message .last .out) (c .encode .last .coded) (subst Fitting e (c .profile-profile .ensures .fits)) (c .write-message .ensures)
     (subst (λ (q : Profile). (i : ℕ) → i < c .args .order .symbols * (2 * q .limit + q .message) → getD (c .encode .last .coded) i 0 ≡ blocks (q .message) (q .limit) (word (c .write-message .last .out)) i) e
-      (subst (λ (n : ℕ). (i : ℕ) → i < n * (2 * p .limit + p .message) → getD (c .encode .last .coded) i 0 ≡ blocks (p .message) (p .limit) (word (c .write-message .last .out)) i) (c .symbols .ensures) (c .encode .ensures .coded)))
+    (subst (λ (n : ℕ). (i : ℕ) → i < n * (2 * p .limit + p .message) → getD (c .encode .last .coded) i 0 ≡ blocks (p .message) (p .limit) (word (c .write-message .last .out)) i) (c .symbols .ensures) (c .encode .ensures .coded)))

@@ -25,12 +25,13 @@ returns-in-None c =
 
 pub loop-place-again : need.loop-place-again
 loop-place-again c =
-    let e : used (head (rest-of (c .args .input .now) (c .loop-place .place))) ≡ Some (c .in-Some .bytes) = sym (c .in-Continue-line .ensures tt .used) ∙ c .in-Some .is in
-    (used-in (c .args .input .now) (c .loop-place .place) (c .in-Some .bytes) (c .loop-place-test .taken) e .1,
-     inputs-next (c .args .input .now) (string-bytes (c .loop-place .text)) (string-bytes (c .push-str .last .self)) (string-bytes (c .in-Continue-line .line)) (c .loop-place .place) (c .loop-place-test .taken)
-       (c .loop-place .inv .1) (c .in-Continue-line .ensures tt .line)
-       (c .in-Continue-push-str .ensures tt .bytes ∙ ap (λ (xs : List ℕ). string-bytes (c .loop-place .text) ++ xs) (c .as-str .ensures .value))
-       (c .in-Some .bytes) e)
+    let e : used (head (rest-of (c .args .input .now) (c .loop-place .place))) ≡ Some (c .in-Some .bytes) = sym (c .in-Continue-line .ensures tt .used) ∙ c .in-Some .is in (
+      used-in (c .args .input .now) (c .loop-place .place) (c .in-Some .bytes) (c .loop-place-test .taken) e .1,
+      inputs-next (c .args .input .now) (string-bytes (c .loop-place .text)) (string-bytes (c .push-str .last .self)) (string-bytes (c .in-Continue-line .line)) (c .loop-place .place) (c .loop-place-test .taken)
+          (c .loop-place .inv .1) (c .in-Continue-line .ensures tt .line)
+          (c .in-Continue-push-str .ensures tt .bytes ∙ ap (λ (xs : List ℕ). string-bytes (c .loop-place .text) ++ xs) (c .as-str .ensures .value))
+          (c .in-Some .bytes) e,
+    )
 
 pub returns : need.returns
 returns c = inputs-done (c .args .input .now) (string-bytes (c .loop-place .text)) (c .loop-place .place) (c .loop-place-test .left) (c .loop-place .inv .1)
