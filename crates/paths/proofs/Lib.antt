@@ -1,0 +1,5 @@
+pub mod Paths
+pub mod Rows
+pub mod Entries
+pub mod Stages
+pub mod Reaches

@@ -1,0 +1,3 @@
+pub mod Model
+pub mod Ties
+pub mod Answers
