@@ -3,3 +3,7 @@ pub mod Rows
 pub mod Entries
 pub mod Stages
 pub mod Reaches
+pub mod Finish
+pub mod Pushed
+pub mod Pushes
+pub mod CostEnds
