@@ -7,3 +7,7 @@ pub mod Finish
 pub mod Pushed
 pub mod Pushes
 pub mod CostEnds
+pub mod Lanes
+pub mod Lanewise
+pub mod Values
+pub mod Backs
