@@ -1,0 +1,8 @@
+//! One search for every trellis: the least cost of a path, and the first path of that cost where it is wanted.
+mod lane;
+mod trellis;
+pub use trellis::Branch;
+pub use trellis::CLOSED_BRANCH;
+pub use trellis::CLOSED_ENTRY;
+pub use trellis::Entry;
+pub use trellis::Trellis;
