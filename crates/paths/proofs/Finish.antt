@@ -13,7 +13,7 @@ use Rattle.std.specs.declared.option.Option.{Option}
 use Rattle.std.specs.declared.option.Option.the-variants.{Some, None}
 use Rattle.paths.specs.Model.{Model, Lawful, Path, after}
 use Rattle.paths.specs.Ties.{state-of, First, BitsFirst, same-bits, lower-bit, same-states, lower-state}
-use Rattle.paths.specs.Answers.{path-of, Arrives, FirstPath, Unreachable}
+use Rattle.paths.specs.Answers.{path-of, Arrives, FirstPath, Unreachable, Kept, By, Found}
 use Rattle.paths.proofs.Rows.{into, trace, Trail, Best, Rowed, Reached, Room, Below, Chosen, End}
 use Rattle.paths.proofs.Paths.{Came, came, some-inj, after-same, after-within, after-cost, after-on}
 use Rattle.paths.proofs.Entries.{into-sound}
@@ -123,3 +123,16 @@ reached-same m work k row other h r = record {
   best = λ t l. subst (λ n. Best m k t n (trace m work k t)) (sym (h t l)) (r .best t l);
   trail = λ t l lt. r .trail t l (let f = h t l in omega arith);
 }
+
+-- ---- the answer
+pub by-true : (b : Bool) (P Q : Type 0) → b ≡ true → P → By b P Q
+by-true b P Q e h = subst (λ z. By z P Q) (sym e) h
+
+pub by-false : (b : Bool) (P Q : Type 0) → b ≡ false → Q → By b P Q
+by-false b P Q e h = subst (λ z. By z P Q) (sym e) h
+
+pub found-none : (m : Model) → Lawful m → m .wanted ≡ true → (work row : List ℕ) (path : List Bool) → Reached m work (m .stages) row → End m row None → Found m path path None
+found-none m law on work row path r none = (unreachable m law on work row r none, refl)
+
+pub found-path : (m : Model) → Lawful m → m .wanted ≡ true → (work row : List ℕ) (old new : List Bool) (t : ℕ) → Reached m work (m .stages) row → Chosen m row t → ((j : ℕ) → j < m .stages → getD new j false ≡ trace m work (m .stages) t j) → Kept (m .stages) old new → Found m old new (Some (getD row t 0))
+found-path m law on work row old new t r ch agree kept = by-true (m .wanted) _ _ on (first-path m law on work row new t r ch agree, kept)
