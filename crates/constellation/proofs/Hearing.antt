@@ -56,9 +56,6 @@ written-all at b v n before now h l w =
       kept = w .kept;
     }
 
-pub axis-heard : (at b v : ℕ) (x : ℤ) (before after : Bits) → Decided b x v → Written at b v before after → AxisHeard at b x before after
-axis-heard at b v x before after d w = record { decided = subst (λ (n : ℕ). Decided b x n) (sym (w .value)) d; kept = w .kept }
-
 -- an axis whose bits did not change
 axis-kept : (b : ℕ) (x : ℤ) (f : ℕ → ℕ) (before after : Bits) → ((u : ℕ) → u < b → after (f u) ≡ before (f u)) → Decided b x (value b (λ u. before (f u))) → Decided b x (value b (λ u. after (f u)))
 axis-kept b x f before after h d = subst (λ (n : ℕ). Decided b x n) (value-same b (λ u. before (f u)) (λ u. after (f u)) (λ u l. sym (h u l))) d
