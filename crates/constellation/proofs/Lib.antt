@@ -1,2 +1,4 @@
 pub mod Ranks
 pub mod Mapping
+pub mod Nearness
+pub mod Hearing

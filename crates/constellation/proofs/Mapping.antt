@@ -74,7 +74,7 @@ module _ (sent : List Bool) (at b : ℕ) where
       (let f = first in let g = byte (flags sent (at + 1)) in let h = byte (flags sent (at + 2)) in omega arith)
 
 -- ---- one point
-q-is : (c : ℕ) (sent : Bits) (t : ℕ) → 1 < c → point c sent t .q ≡ level (width c) (quadrature c sent t)
+pub q-is : (c : ℕ) (sent : Bits) (t : ℕ) → 1 < c → point c sent t .q ≡ level (width c) (quadrature c sent t)
 q-is c sent t h = not-one c (pos 0) (level (width c) (quadrature c sent t)) h
   where
     not-one : (c : ℕ) (x y : ℤ) → 1 < c → cond (eqb c 1) x y ≡ y

@@ -8,7 +8,7 @@ use native.Mathlib.Omega.{arith}
 use native.Mathlib.Nat.{not-suc-le-zero, eq-or-lt-of-le, le-of-suc-le-suc}
 use Rattle.std.proofs.shelf.Signed.{ints}
 use lib.Bits.{bitXor}
-use lib.Dec.{T, eqb, eqb→eq, leb, leb→le}
+use lib.Dec.{T, eqb, eqb→eq, leb, leb→le, ltb, ltb→lt}
 use lib.IntN.{ℤ, pos, negsuc, _-ℤ_, natAbs}
 use Rattle.constellation.specs.Constellation.{Width, level}
 
@@ -81,6 +81,10 @@ pub named-rank : (b v : ℕ) → Width b → v < 2 ^ b → named b (rank b v) �
 unfolding rank named
 named-rank b v w h = eqb→eq (named b (rank b v)) v (tested (λ b v. eqb (named b (rank b v)) v) tt tt tt b v w h)
 
+pub rank-below : (b v : ℕ) → Width b → v < 2 ^ b → rank b v < 2 ^ b
+unfolding rank
+rank-below b v w h = ltb→lt (rank b v) (2 ^ b) (tested (λ b v. ltb (rank b v) (2 ^ b)) tt tt tt b v w h)
+
 pub level-within : (b v : ℕ) → Width b → v < 2 ^ b → natAbs (level b v) ≤ 1792
 level-within b v w h = leb→le (natAbs (level b v)) 1792 (tested (λ b v. leb (natAbs (level b v)) 1792) tt tt tt b v w h)
 
@@ -93,3 +97,19 @@ level-one b u v w hu hv e =
   where
     graded-one : (l m n : ℕ) → graded l m ≡ graded l n → m ≡ n
     graded-one l m n e = omega (arith, ints)
+
+-- ---- a rank has bits
+pub gray-below : (b n : ℕ) → Width b → n < 2 ^ b → bitXor n (n / 2) ≤ 2 ^ b - 1
+gray-below b n w h = leb→le (bitXor n (n / 2)) (2 ^ b - 1) (tested (λ b n. leb (bitXor n (n / 2)) (2 ^ b - 1)) tt tt tt b n w h)
+
+pub named-below : (b n : ℕ) → Width b → n < 2 ^ b → named b n < 2 ^ b
+unfolding named
+named-below b n w h = ltb→lt (named b n) (2 ^ b) (tested (λ b n. ltb (named b n) (2 ^ b)) tt tt tt b n w h)
+
+pub rank-named : (b n : ℕ) → Width b → n < 2 ^ b → rank b (named b n) ≡ n
+unfolding named rank
+rank-named b n w h = eqb→eq (rank b (named b n)) n (tested (λ b n. eqb (rank b (named b n)) n) tt tt tt b n w h)
+
+-- the level of a rank's bits
+pub level-named : (b n : ℕ) → Width b → n < 2 ^ b → level b (named b n) ≡ graded (2 ^ b) n
+level-named b n w h = level-is b (named b n) w (named-below b n w h) ∙ ap (graded (2 ^ b)) (rank-named b n w h)

@@ -1,1 +1,3 @@
 pub mod Constellation
+pub mod Decisions
+pub mod Steps

@@ -1,8 +1,11 @@
-//! Bits to the points of carriers, `c` bits to a carrier.
+//! Bits to the points of carriers, and points decided to bits, `c` bits to a carrier.
 ghost use Prim.Native.Nat.{ℕ, _+_, _*_, _^_, _<_, _≤_};
 ghost use Rattle.constellation.specs.Constellation.{Carried, Width, level as leveled, origin, point, width as wide};
+ghost use Rattle.constellation.specs.Decisions.{Decided, Decisions, Heard};
+ghost use Rattle.constellation.specs.Steps.{AxisHeard, PointHeard, Ranked, Written};
 ghost use Rattle.standard.specs.Profiles.{Modulation};
 ghost use Rattle.words.specs.Words.{flags, value};
+ghost use lib.Dec.{ltb};
 ghost use lib.ListN.{getD, length};
 ghost use mathlib.Core.Path.{_≡_};
 use standard::point::Point;
@@ -97,6 +100,108 @@ pub fn map(c: usize, sent: &[bool], points: &mut [Point])
         points[t] = point_at(c, sent, t);
     }
 }
+
+// How many levels an axis of `b` bits has.
+fn levels(b: usize) -> u32
+    requires { ⌜ Width b ⌝ }
+    ensures { λ r. ⌜ r ≡ 2 ^ b ⌝ }
+{
+    if b == 1 {
+        2
+    } else if b == 2 {
+        4
+    } else {
+        8
+    }
+}
+
+// The rank, from the lowest, of the level nearest to `x` among `l` that stand 512 apart. The lowest axis value
+// is 64 steps below zero.
+fn nearest(l: u32, x: i16) -> u32
+    requires some { ⌜ 0 < l ⌝ }
+    requires few { ⌜ l ≤ 8 ⌝ }
+    ensures { λ r. ⌜ Ranked l x r ⌝ }
+{
+    let steps = ((x as i32 + 32768) as u32 + 256 * l) / 512;
+    if steps < 64 {
+        0
+    } else if steps - 64 < l {
+        steps - 64
+    } else {
+        l - 1
+    }
+}
+
+// The bits of the level nearest to `x`; of two equally near, of the greater. Ranks are Gray coded.
+fn decide(b: usize, x: i16) -> u8
+    requires { ⌜ Width b ⌝ }
+    ensures { λ r. ⌜ Decided b x r ⌝ }
+{
+    let l = levels(b);
+    let n = nearest(l, x);
+    (l - 1 - (n ^ (n >> 1))) as u8
+}
+
+// Writes `v` as the `b` bits from `at` on.
+fn write_bits(v: u8, b: usize, at: usize, bits: &mut [bool])
+    requires width { ⌜ Width b ⌝ }
+    requires among { ⌜ v < 2 ^ b ⌝ }
+    requires within { ⌜ at + b ≤ length (now bits) ⌝ }
+    ensures { λ _. ⌜ Written at b v (flags (now (bits .entry))) (flags (now (bits .exit))) ⌝ }
+{
+    for u in 0..b {
+        bits[at + u] = (v >> (b - 1 - u) as u32) % 2 == 1;
+    }
+}
+
+// Writes the `b` bits that `x` is decided to, from `at` on.
+fn hear_axis(x: i16, b: usize, at: usize, bits: &mut [bool])
+    requires width { ⌜ Width b ⌝ }
+    requires within { ⌜ at + b ≤ length (now bits) ⌝ }
+    ensures { λ _. ⌜ AxisHeard at b x (flags (now (bits .entry))) (flags (now (bits .exit))) ⌝ }
+{
+    write_bits(decide(b, x), b, at, bits);
+}
+
+// Whether the quadrature carries bits: that of BPSK does not.
+fn has_quadrature(c: usize) -> bool
+    ensures { λ r. ⌜ r ≡ ltb 1 c ⌝ }
+{
+    c > 1
+}
+
+// Writes the bits of carrier `t`.
+fn hear_point(c: usize, p: Point, t: usize, bits: &mut [bool])
+    requires modulation { ⌜ Modulation c ⌝ }
+    requires few { ⌜ t < 1536 ⌝ }
+    requires within { ⌜ c * t + c ≤ length (now bits) ⌝ }
+    ensures { λ _. ⌜ PointHeard c t p (flags (now (bits .entry))) (flags (now (bits .exit))) ⌝ }
+{
+    let b = width(c);
+    hear_axis(p.i, b, c * t, bits);
+    if has_quadrature(c) {
+        hear_axis(p.q, b, c * t + b, bits);
+    }
+}
+
+// The bits that the first `count` points are decided to.
+pub fn hear(c: usize, count: usize, points: &[Point], bits: &mut [bool])
+    requires modulation { ⌜ Modulation c ⌝ }
+    requires few { ⌜ count ≤ 1536 ⌝ }
+    requires points_long { ⌜ count ≤ length (now points) ⌝ }
+    requires bits_long { ⌜ c * count ≤ length (now bits) ⌝ }
+    ensures heard { λ _. ⌜ Heard c count (now (points .entry)) (flags (now (bits .exit))) ⌝ }
+    ensures past { λ _. ⌜ ((k : ℕ) → c * count ≤ k → flags (now (bits .exit)) k ≡ flags (now (bits .entry)) k) ⌝ }
+{
+    for t in 0..count {
+        hear_point(c, points[t], t, bits);
+    }
+}
+
+// Every point is heard in one way, and as it was sent if it has not moved: see the contract.
+pub fn decisions_stand()
+    ensures { λ _. ⌜ Decisions ⌝ }
+{}
 
 // A point is within reach, and carries its bits: see the contract.
 pub fn points_carry_their_bits()

@@ -1,6 +1,6 @@
--- The steps of the loops that interleave.
+-- The steps of the loops that interleave, and of those that undo it: bit k is read at from k and written at to k.
 -- Assumes nothing.
-use mathlib.Core.Path.{_≡_, refl, sym, _∙_, ap, ap₂, subst}
+use mathlib.Core.Path.{_≡_, refl, sym, _∙_, ap, ap₂, subst, subst₂}
 use mathlib.Core.Logic.{_⊎_, inl, inr, _≢_}
 use mathlib.Core.Bool.{Bool, false}
 use mathlib.Core.List.{List}
@@ -12,7 +12,7 @@ use lib.ListN.{length, set}
 use lib.Seq.{getD-set-same, getD-set-other}
 use Rattle.words.specs.Words.{Bits, flags}
 use Rattle.standard.specs.Profiles.{Modulation}
-use Rattle.interleaver.specs.Interleaver.{size, turn, place, Interleaved}
+use Rattle.interleaver.specs.Interleaver.{size, turn, place}
 use Rattle.interleaver.specs.Steps.{stride, Kept, Symbol}
 use Rattle.interleaver.proofs.Permutation.{parts, place-below, place-at}
 use Rattle.interleaver.proofs.Laws.{injective}
@@ -61,95 +61,107 @@ place-strided g c k hg m h =
     less s n h = omega arith
 
 -- ---- one bit is written
-module _ (g c base : ℕ) (hg : 0 < g) (m : Modulation c) (sent : List Bool) (k : ℕ) (v : Bool) (hk : k < size g c) where
-  write-same : base + size g c ≤ length sent → flags (set sent (base + place g c k) v) (base + place g c k) ≡ v
+-- different bits of n go to different places of n
+pub record Into (n : ℕ) (to : ℕ → ℕ) : Type 0 where
+  pub below : (k : ℕ) → k < n → to k < n
+  pub one : (k l : ℕ) → k < n → l < n → to k ≡ to l → k ≡ l
+
+pub into-place : (g c : ℕ) → 0 < g → Modulation c → Into (size g c) (place g c)
+into-place g c hg m = record { below = place-below g c (parts c m) hg; one = λ k l. injective g c k l hg m }
+
+pub into-own : (n : ℕ) → Into n (λ k. k)
+into-own n = record { below = λ k h. h; one = λ k l h i e. e }
+
+module _ (n base : ℕ) (to : ℕ → ℕ) (p : Into n to) (xs : List Bool) (k : ℕ) (v : Bool) (hk : k < n) where
+  write-same : base + n ≤ length xs → flags (set xs (base + to k) v) (base + to k) ≡ v
   write-same l =
-      getD-set-same sent (base + place g c k) v false
-      (let b = place-below g c (parts c m) hg k hk in let z : base + place g c k < length sent = omega arith in z)
+      getD-set-same xs (base + to k) v false
+      (let b = p .below k hk in let z : base + to k < length xs = omega arith in z)
 
-  write-other : (i : ℕ) → i < size g c → i ≢ k → flags (set sent (base + place g c k) v) (base + place g c i) ≡ flags sent (base + place g c i)
+  write-other : (i : ℕ) → i < n → i ≢ k → flags (set xs (base + to k) v) (base + to i) ≡ flags xs (base + to i)
   write-other i hi ne =
-      getD-set-other sent (base + place g c k) (base + place g c i) v false
-      (λ e. ne (injective g c i k hg m hi hk (cancel (place g c i) (place g c k) e)))
-    where
-      cancel : (x y : ℕ) → base + x ≡ base + y → x ≡ y
-      cancel x y e = omega arith
+      getD-set-other xs (base + to k) (base + to i) v false
+      (λ e. ne (p .one i k hi hk (let z : to i ≡ to k = omega arith in z)))
 
-  write-kept : Kept g c base (flags sent) (flags (set sent (base + place g c k) v))
+  write-kept : (j : ℕ) → (j < base) ⊎ (base + n ≤ j) → flags (set xs (base + to k) v) j ≡ flags xs j
   write-kept j h =
-      getD-set-other sent (base + place g c k) j v false (apart (place g c k) (size g c) (place-below g c (parts c m) hg k hk) h)
+      getD-set-other xs (base + to k) j v false (apart (to k) (p .below k hk) h)
     where
-      apart : (x n : ℕ) → x < n → (j < base) ⊎ (base + n ≤ j) → j ≢ base + x
-      apart x n l (inl a) e = omega arith
-      apart x n l (inr a) e = omega arith
+      apart : (x : ℕ) → x < n → (j < base) ⊎ (base + n ≤ j) → j ≢ base + x
+      apart x l (inl a) e = omega arith
+      apart x l (inr a) e = omega arith
 
 -- ---- one run
--- the coded bits of the run before k are written, and j is the place of k
-pub record RunTo (g c base first k j : ℕ) (coded before now : Bits) : Type 0 where
+-- the bits of the run before k are written, and j is the place of k
+pub record RunTo (g c base first k j : ℕ) (from to : ℕ → ℕ) (word before now : Bits) : Type 0 where
   pub next : k < size g c → j ≡ place g c k
   pub phase : k % stride c ≡ first
-  pub goes : (i : ℕ) → i < k → i < size g c → i % stride c ≡ first → now (base + place g c i) ≡ coded (base + i)
-  pub others : (i : ℕ) → i < size g c → (i % stride c ≡ first → ⊥) → now (base + place g c i) ≡ before (base + place g c i)
+  pub goes : (i : ℕ) → i < k → i < size g c → i % stride c ≡ first → now (base + to i) ≡ word (base + from i)
+  pub others : (i : ℕ) → i < size g c → (i % stride c ≡ first → ⊥) → now (base + to i) ≡ before (base + to i)
   pub kept : Kept g c base before now
 
-run-step : (g c base first k j : ℕ) (v : Bool) (coded before : Bits) (sent : List Bool) → 0 < g → Modulation c → k < size g c → base + size g c ≤ length sent
-    → v ≡ coded (base + k) → RunTo g c base first k j coded before (flags sent)
-    → RunTo g c base first (k + stride c) (place g c k + turn c) coded before (flags (set sent (base + place g c k) v))
-run-step g c base first k j v coded before sent hg m hk l ev r =
-    record {
-      next = λ h. sym (place-strided g c k hg m h);
-      phase = add-mod-right k (stride c) ∙ r .phase;
-      goes = λ i h hi p. elim (ℕ-discrete i k) [
-        | yes e ↦ subst (λ (x : ℕ). flags ys (base + place g c x) ≡ coded (base + x)) (sym e) (write-same g c base hg m sent k v hk l ∙ ev)
-        | no ne ↦ write-other g c base hg m sent k v hk i hi ne
-            ∙ r .goes i (earlier (stride c) i h ne (p ∙ sym (r .phase))) hi p
-      ];
-      others = λ i hi p. write-other g c base hg m sent k v hk i hi (λ e. p (ap (λ (x : ℕ). x % stride c) e ∙ r .phase)) ∙ r .others i hi p;
-      kept = λ i h. write-kept g c base hg m sent k v hk i h ∙ r .kept i h;
-    }
-  where
-    ys : List Bool
-    ys = set sent (base + place g c k) v
+module _ (g c base first k j : ℕ) (from to : ℕ → ℕ) (word before : Bits) (xs : List Bool) (hg : 0 < g) (m : Modulation c) (hk : k < size g c) (l : base + size g c ≤ length xs)
+    (r : RunTo g c base first k j from to word before (flags xs)) where
+  run-step : Into (size g c) to → RunTo g c base first (k + stride c) (place g c k + turn c) from to word before (flags (set xs (base + to k) (word (base + from k))))
+  run-step p =
+      record {
+        next = λ h. sym (place-strided g c k hg m h);
+        phase = add-mod-right k (stride c) ∙ r .phase;
+        goes = λ i h hi q. elim (ℕ-discrete i k) [
+          | yes e ↦ subst (λ (x : ℕ). flags ys (base + to x) ≡ word (base + from x)) (sym e) (write-same (size g c) base to p xs k v hk l)
+          | no ne ↦ write-other (size g c) base to p xs k v hk i hi ne
+              ∙ r .goes i (earlier (stride c) i h ne (q ∙ sym (r .phase))) hi q
+        ];
+        others = λ i hi q. write-other (size g c) base to p xs k v hk i hi (λ e. q (ap (λ (x : ℕ). x % stride c) e ∙ r .phase)) ∙ r .others i hi q;
+        kept = λ i h. write-kept (size g c) base to p xs k v hk i h ∙ r .kept i h;
+      }
+    where
+      v : Bool
+      v = word (base + from k)
 
-    earlier : (n i : ℕ) → i < k + n → i ≢ k → i % n ≡ k % n → i < k
-    earlier n i h ne e = elim (decLt i k) [ yes q ↦ q | no q ↦ absurd (ne (same-of-run n i k e (omega arith) h)) ]
+      ys : List Bool
+      ys = set xs (base + to k) v
 
-pub run-more : (g c base first k j s : ℕ) (coded before : Bits) (sent : List Bool) → 0 < g → Modulation c → k < size g c → base + size g c ≤ length sent → s ≡ turn c
-    → RunTo g c base first k j coded before (flags sent) → RunTo g c base first (k + 12 * s) (j + s) coded before (flags (set sent (base + j) (coded (base + k))))
-run-more g c base first k j s coded before sent hg m hk l es r =
-    subst (λ (x : ℕ). RunTo g c base first (k + 12 * x) (j + x) coded before (flags (set sent (base + j) (coded (base + k))))) (sym es)
-    (subst (λ (x : ℕ). RunTo g c base first (k + stride c) (x + turn c) coded before (flags (set sent (base + x) (coded (base + k))))) (sym (r .next hk))
-    (run-step g c base first k j (coded (base + k)) coded before sent hg m hk l refl r))
+      earlier : (n i : ℕ) → i < k + n → i ≢ k → i % n ≡ k % n → i < k
+      earlier n i h ne e = elim (decLt i k) [ yes q ↦ q | no q ↦ absurd (ne (same-of-run n i k e (omega arith) h)) ]
 
-pub run-within : {g c base first k j : ℕ} {coded before now : Bits} → 0 < g → Modulation c → k < size g c → RunTo g c base first k j coded before now → j < size g c
+  -- as the loops have it: s is the turn, and the bit goes from place x to place y
+  pub run-more : (s x y : ℕ) → s ≡ turn c → x ≡ from k → y ≡ to k → Into (size g c) to
+      → RunTo g c base first (k + 12 * s) (j + s) from to word before (flags (set xs (base + y) (word (base + x))))
+  run-more s x y es ex ey p =
+      subst (λ (n : ℕ). RunTo g c base first (k + 12 * n) (j + n) from to word before (flags (set xs (base + y) (word (base + x))))) (sym es)
+      (subst (λ (n : ℕ). RunTo g c base first (k + stride c) (n + turn c) from to word before (flags (set xs (base + y) (word (base + x))))) (sym (r .next hk))
+      (subst₂ (λ (a b : ℕ). RunTo g c base first (k + stride c) (place g c k + turn c) from to word before (flags (set xs (base + b) (word (base + a))))) (sym ex) (sym ey)
+      (run-step p)))
+
+pub run-within : {g c base first k j : ℕ} {from to : ℕ → ℕ} {word before now : Bits} → 0 < g → Modulation c → k < size g c → RunTo g c base first k j from to word before now → j < size g c
 run-within {g = g} {c = c} {k = k} hg m hk r = subst (λ (x : ℕ). x < size g c) (sym (r .next hk)) (place-below g c (parts c m) hg k hk)
 
 -- ---- one symbol
 -- the runs before a first one are written
-pub record RunsTo (g c base first : ℕ) (coded before now : Bits) : Type 0 where
-  pub goes : (k : ℕ) → k < size g c → k % stride c < first → now (base + place g c k) ≡ coded (base + k)
+pub record RunsTo (g c base first : ℕ) (from to : ℕ → ℕ) (word before now : Bits) : Type 0 where
+  pub goes : (k : ℕ) → k < size g c → k % stride c < first → now (base + to k) ≡ word (base + from k)
   pub kept : Kept g c base before now
 
 -- ---- all symbols
 -- the first n symbols are written, and the rest is as it was
-pub record SymbolsTo (g c n : ℕ) (coded before now : Bits) : Type 0 where
-  pub goes : Interleaved g c n coded now
+pub record SymbolsTo (g c n : ℕ) (from to : ℕ → ℕ) (word before now : Bits) : Type 0 where
+  pub goes : (b k : ℕ) → b < n → k < size g c → now (size g c * b + to k) ≡ word (size g c * b + from k)
   pub rest : (j : ℕ) → size g c * n ≤ j → now j ≡ before j
 
 -- symbol b ends before symbol n starts
 pub symbol-ends : (w b n : ℕ) → b < n → w * b + w ≤ w * n
 symbol-ends w b n h = let e = mul-le-mul-left w h in let f = mul-suc w b in omega arith
 
-pub symbols-more : (g c n : ℕ) (coded before mid now : Bits) → 0 < g → Modulation c → SymbolsTo g c n coded before mid → Symbol g c (size g c * n) coded mid now → SymbolsTo g c (n + 1) coded before now
-symbols-more g c n coded before mid now hg m w r =
+pub symbols-more : (g c n : ℕ) (from to : ℕ → ℕ) (word before mid now : Bits) → Into (size g c) to → SymbolsTo g c n from to word before mid → Symbol g c (size g c * n) from to word mid now
+    → SymbolsTo g c (n + 1) from to word before now
+symbols-more g c n from to word before mid now p w r =
     record {
-      goes = record {
-        goes = λ b k hb hk. elim (ℕ-discrete b n) [
-          | yes e ↦ subst (λ (x : ℕ). now (size g c * x + place g c k) ≡ coded (size g c * x + k)) (sym e) (r .goes k hk)
-          | no e ↦ r .kept (size g c * b + place g c k) (inl (within (size g c) b (place g c k) (place-below g c (parts c m) hg k hk) (let z : b < n = omega arith in z))) ∙ w .goes .goes b k (omega arith) hk
-        ];
-      };
-      rest = λ j h. r .kept j (inr (past (size g c) j h)) ∙ w .rest j (from (size g c) j h);
+      goes = λ b k hb hk. elim (ℕ-discrete b n) [
+        | yes e ↦ subst (λ (x : ℕ). now (size g c * x + to k) ≡ word (size g c * x + from k)) (sym e) (r .goes k hk)
+        | no e ↦ r .kept (size g c * b + to k) (inl (within (size g c) b (to k) (p .below k hk) (let z : b < n = omega arith in z))) ∙ w .goes b k (omega arith) hk
+      ];
+      rest = λ j h. r .kept j (inr (past (size g c) j h)) ∙ w .rest j (from-start (size g c) j h);
     }
   where
     within : (a b x : ℕ) → x < a → b < n → a * b + x < a * n
@@ -158,5 +170,5 @@ symbols-more g c n coded before mid now hg m w r =
     past : (a j : ℕ) → a * (n + 1) ≤ j → a * n + a ≤ j
     past a j h = omega arith
 
-    from : (a j : ℕ) → a * (n + 1) ≤ j → a * n ≤ j
-    from a j h = omega arith
+    from-start : (a j : ℕ) → a * (n + 1) ≤ j → a * n ≤ j
+    from-start a j h = omega arith

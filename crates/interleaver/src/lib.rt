@@ -1,4 +1,4 @@
-//! The interleaver of a symbol, over `g` subchannels with `c` bits per carrier.
+//! The interleaver of a symbol and its undoing, over `g` subchannels with `c` bits per carrier.
 ghost use Prim.Native.Nat.{ℕ, _+_, _*_, _<_, _≤_};
 ghost use Rattle.interleaver.specs.Interleaver.{Interleaved, Permutation, place as placed, size, turn as turned};
 ghost use Rattle.interleaver.specs.Steps.{Run, Symbol, stride};
@@ -50,7 +50,7 @@ fn interleave_run(g: usize, c: usize, base: usize, first: usize, coded: &[bool],
     requires start { ⌜ first < stride c ⌝ }
     requires coded_long { ⌜ base + size g c ≤ length (now coded) ⌝ }
     requires sent_long { ⌜ base + size g c ≤ length (now sent) ⌝ }
-    ensures { λ _. ⌜ Run g c base first (flags (now (coded .entry))) (flags (now (sent .entry))) (flags (now (sent .exit))) ⌝ }
+    ensures { λ _. ⌜ Run g c base first (λ k. k) (placed g c) (flags (now (coded .entry))) (flags (now (sent .entry))) (flags (now (sent .exit))) ⌝ }
 {
     let s = turn(c);
     let size = 12 * g * c;
@@ -70,7 +70,7 @@ fn interleave_symbol(g: usize, c: usize, base: usize, coded: &[bool], sent: &mut
     requires modulation { ⌜ Modulation c ⌝ }
     requires coded_long { ⌜ base + size g c ≤ length (now coded) ⌝ }
     requires sent_long { ⌜ base + size g c ≤ length (now sent) ⌝ }
-    ensures { λ _. ⌜ Symbol g c base (flags (now (coded .entry))) (flags (now (sent .entry))) (flags (now (sent .exit))) ⌝ }
+    ensures { λ _. ⌜ Symbol g c base (λ k. k) (placed g c) (flags (now (coded .entry))) (flags (now (sent .entry))) (flags (now (sent .exit))) ⌝ }
 {
     for first in 0..12 * turn(c) {
         interleave_run(g, c, base, first, coded, sent);
@@ -90,6 +90,57 @@ pub fn interleave(g: usize, c: usize, count: usize, coded: &[bool], sent: &mut [
 {
     for b in 0..count {
         interleave_symbol(g, c, 12 * g * c * b, coded, sent);
+    }
+}
+
+// Reads every coded bit that is a whole number of strides from `first` back from its place.
+fn deinterleave_run(g: usize, c: usize, base: usize, first: usize, heard: &[bool], coded: &mut [bool])
+    requires some { ⌜ 0 < g ⌝ }
+    requires few { ⌜ g ≤ 16 ⌝ }
+    requires modulation { ⌜ Modulation c ⌝ }
+    requires start { ⌜ first < stride c ⌝ }
+    requires heard_long { ⌜ base + size g c ≤ length (now heard) ⌝ }
+    requires coded_long { ⌜ base + size g c ≤ length (now coded) ⌝ }
+    ensures { λ _. ⌜ Run g c base first (placed g c) (λ k. k) (flags (now (heard .entry))) (flags (now (coded .entry))) (flags (now (coded .exit))) ⌝ }
+{
+    let s = turn(c);
+    let size = 12 * g * c;
+    let mut k = first;
+    let mut j = place(g, c, first);
+    while k < size {
+        coded[base + k] = heard[base + j];
+        k += 12 * s;
+        j += s;
+    }
+}
+
+// Undoes the interleaving of the symbol that starts at `base`.
+fn deinterleave_symbol(g: usize, c: usize, base: usize, heard: &[bool], coded: &mut [bool])
+    requires some { ⌜ 0 < g ⌝ }
+    requires few { ⌜ g ≤ 16 ⌝ }
+    requires modulation { ⌜ Modulation c ⌝ }
+    requires heard_long { ⌜ base + size g c ≤ length (now heard) ⌝ }
+    requires coded_long { ⌜ base + size g c ≤ length (now coded) ⌝ }
+    ensures { λ _. ⌜ Symbol g c base (placed g c) (λ k. k) (flags (now (heard .entry))) (flags (now (coded .entry))) (flags (now (coded .exit))) ⌝ }
+{
+    for first in 0..12 * turn(c) {
+        deinterleave_run(g, c, base, first, heard, coded);
+    }
+}
+
+// Undoes the interleaving of `count` symbols.
+pub fn deinterleave(g: usize, c: usize, count: usize, heard: &[bool], coded: &mut [bool])
+    requires some { ⌜ 0 < g ⌝ }
+    requires few { ⌜ g ≤ 16 ⌝ }
+    requires modulation { ⌜ Modulation c ⌝ }
+    requires short { ⌜ count ≤ 8 ⌝ }
+    requires heard_long { ⌜ size g c * count ≤ length (now heard) ⌝ }
+    requires coded_long { ⌜ size g c * count ≤ length (now coded) ⌝ }
+    ensures interleaved { λ _. ⌜ Interleaved g c count (flags (now (coded .exit))) (flags (now (heard .entry))) ⌝ }
+    ensures rest { λ _. ⌜ ((k : ℕ) → size g c * count ≤ k → flags (now (coded .exit)) k ≡ flags (now (coded .entry)) k) ⌝ }
+{
+    for b in 0..count {
+        deinterleave_symbol(g, c, 12 * g * c * b, heard, coded);
     }
 }
 

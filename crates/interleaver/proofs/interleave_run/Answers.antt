@@ -1,6 +1,8 @@
+use mathlib.Core.Path.{refl}
 use native.Mathlib.Omega.{arith}
 use Rattle.words.specs.Words.{flags}
-use Rattle.interleaver.proofs.Writing.{run-more, run-within, turn-few}
+use Rattle.interleaver.specs.Interleaver.{size, place}
+use Rattle.interleaver.proofs.Writing.{into-place, run-more, run-within, turn-few}
 use Rattle.interleaver.proofs.interleave_run.Needs as need
 
 pub add-sent-in-loop-k : need.add-sent-in-loop-k
@@ -14,5 +16,6 @@ add-j c = let w = run-within (c .pre .some) (c .pre .modulation) (c .loop-k-test
 
 pub loop-k-again : need.loop-k-again
 loop-k-again c =
-    run-more (c .args .g) (c .args .c) (c .args .base) (c .args .first) (c .loop-k .k) (c .loop-k .j) (c .turn-s .result) (flags (c .args .coded .now)) (flags (c .args .sent .now)) (c .loop-k .sent)
-    (c .pre .some) (c .pre .modulation) (c .loop-k-test .taken) (omega arith) (c .turn-s .ensures) (c .loop-k .inv)
+    run-more (c .args .g) (c .args .c) (c .args .base) (c .args .first) (c .loop-k .k) (c .loop-k .j) (λ k. k) (place (c .args .g) (c .args .c)) (flags (c .args .coded .now)) (flags (c .args .sent .now)) (c .loop-k .sent)
+    (c .pre .some) (c .pre .modulation) (c .loop-k-test .taken) (omega arith) (c .loop-k .inv)
+    (c .turn-s .result) (c .loop-k .k) (c .loop-k .j) (c .turn-s .ensures) refl (c .loop-k .inv .next (c .loop-k-test .taken)) (into-place (c .args .g) (c .args .c) (c .pre .some) (c .pre .modulation))

@@ -1,10 +1,11 @@
 use Prim.Native.Nat.{_-_}
 use Rattle.words.specs.Words.{flags}
+use Rattle.interleaver.specs.Interleaver.{place}
 use Rattle.interleaver.proofs.Writing.{RunTo}
 use Rattle.interleaver.proofs.interleave_run.Given as given
 
 abbrev pub Inv-loop-k : given.InvT-loop-k
-Inv-loop-k l = RunTo (l .g) (l .c) (l .base) (l .first) (l .k) (l .j) (flags (l .coded)) (flags (l .entry .sent)) (flags (l .sent))
+Inv-loop-k l = RunTo (l .g) (l .c) (l .base) (l .first) (l .k) (l .j) (λ k. k) (place (l .g) (l .c)) (flags (l .coded)) (flags (l .entry .sent)) (flags (l .sent))
 
 abbrev pub μ-loop-k : given.MeasureT-loop-k
 μ-loop-k l = l .size - l .k
