@@ -1,4 +1,4 @@
--- One turn of the loops over rows.
+-- One turn of the loops over rows and blocks.
 -- Assumes nothing.
 use mathlib.Core.Path.{_≡_, refl, sym, _∙_, ap, ap₂, subst}
 use mathlib.Core.Logic.{_≢_}
@@ -11,6 +11,9 @@ use lib.ListN.{length, getD, set, length-set}
 use lib.Seq.{getD-set-same, getD-set-other}
 use Rattle.field.specs.Field.{_⊕_, _⊗_}
 use native.Mathlib.Numerals.{add-one}
+use native.Mathlib.Nat.{le-refl}
+use Rattle.outer_code.proofs.Filled as F
+use Rattle.outer_code.proofs.Filled.{Filled}
 use Rattle.outer_theory.specs.Sums.{sum}
 use Rattle.outer_theory.specs.Rows.{at}
 use Rattle.outer_theory.proofs.Sums.{sum-suc}
@@ -56,3 +59,14 @@ sum-more n s r f a b = ap₂ bitXor a b ∙ sym (sum-suc n f) ∙ ap (λ (m : �
 pub sum-nothing : (f : ℕ → ℕ) → 0 ≡ sum 0 f
 unfolding sum
 sum-nothing f = refl
+
+-- byte k with its error added
+abbrev pub corrected : List ℕ → List ℕ → ℕ → ℕ
+corrected old errors k = getD old k 0 ⊕ getD errors k 0
+
+pub corrected-more : (old block errors : List ℕ) (k : ℕ) → k < length old → Filled (corrected old errors) 0 k old block
+    → Filled (corrected old errors) 0 (k + 1) old (set block k (bitXor (getD block k 0) (getD errors k 0)))
+unfolding _⊕_
+corrected-more old block errors k l w =
+    F.filled-more (corrected old errors) 0 k (bitXor (getD block k 0) (getD errors k 0)) old block w (omega arith) l
+    (ap (λ (y : ℕ). bitXor y (getD errors k 0)) (w .behind k (le-refl k)))

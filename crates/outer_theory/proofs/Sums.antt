@@ -157,3 +157,19 @@ zeros-no n c f e z = sym (N.add-zero c) ∙ ap₂ _+_ e (sym (none (f n) z)) ∙
 pub zeros-start : (f : ℕ → ℕ) → 0 ≡ zeros 0 f
 unfolding zeros
 zeros-start f = refl
+
+pub count-yes : (n c : ℕ) (f : ℕ → ℕ) → c ≡ count n f → (f n ≡ 0 → ⊥) → c + 1 ≡ count (n + 1) f
+unfolding count
+count-yes n c f e z = ap₂ _+_ e (sym (one (f n) z)) ∙ ap (λ (m : ℕ). count m f) (sym (add-one n))
+  where
+    one : (a : ℕ) → (a ≡ 0 → ⊥) → one-if a ≡ 1
+    one zero h = absurd (h refl)
+    one (suc a) h = refl
+
+pub count-no : (n c : ℕ) (f : ℕ → ℕ) → c ≡ count n f → f n ≡ 0 → c ≡ count (n + 1) f
+unfolding count
+count-no n c f e z = sym (N.add-zero c) ∙ ap₂ _+_ e (sym (ap one-if z)) ∙ ap (λ (m : ℕ). count m f) (sym (add-one n))
+
+pub count-start : (f : ℕ → ℕ) → 0 ≡ count 0 f
+unfolding count
+count-start f = refl
