@@ -14,7 +14,7 @@ use Rattle.words.specs.Words.{Bytes, part}
 use Rattle.outer_code.specs.Parity.{generator, next, parity-of}
 use Rattle.outer_code.proofs.Parity.{length-next, next-at, parity-none}
 use Rattle.outer_code.proofs.Blocks.{parity-part}
-use Rattle.outer.proofs.Filled.{Filled}
+use Rattle.outer_code.proofs.Filled.{Filled}
 
 -- the rest moved up by one place
 abbrev pub moved : List ℕ → ℕ → ℕ

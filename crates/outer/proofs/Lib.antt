@@ -1,4 +1,3 @@
 pub mod Table
-pub mod Filled
 pub mod Division
 pub mod Encoding

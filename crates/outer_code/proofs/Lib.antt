@@ -1,2 +1,3 @@
 pub mod Parity
 pub mod Blocks
+pub mod Filled

@@ -2,7 +2,7 @@ use mathlib.Core.Path.{_≡_, ap}
 use Prim.Native.Nat.{ℕ, _+_, _-_}
 use native.Mathlib.Omega.{arith}
 use lib.ListN.{getD}
-use Rattle.outer.proofs.Filled.{filled-next}
+use Rattle.outer_code.proofs.Filled.{filled-next}
 use Rattle.outer.proofs.copy.Needs as need
 
 pub loop-k-again : need.loop-k-again

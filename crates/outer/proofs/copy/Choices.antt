@@ -1,6 +1,6 @@
 use Prim.Native.Nat.{_+_, _-_}
 use lib.ListN.{getD}
-use Rattle.outer.proofs.Filled.{Filled}
+use Rattle.outer_code.proofs.Filled.{Filled}
 use Rattle.outer.proofs.copy.Given as given
 
 abbrev pub Inv-loop-k : given.InvT-loop-k

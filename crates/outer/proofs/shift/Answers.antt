@@ -1,5 +1,5 @@
 use native.Mathlib.Omega.{arith}
-use Rattle.outer.proofs.Filled.{filled-start, filled-more, filled-last}
+use Rattle.outer_code.proofs.Filled.{filled-start, filled-more, filled-last}
 use Rattle.outer.proofs.Division.{moved, above, moved-last}
 use Rattle.outer.proofs.shift.Needs as need
 

@@ -1,4 +1,4 @@
-use Rattle.outer.proofs.Filled.{Filled}
+use Rattle.outer_code.proofs.Filled.{Filled}
 use Rattle.outer.proofs.Division.{moved}
 use Rattle.outer.proofs.shift.Given as given
 

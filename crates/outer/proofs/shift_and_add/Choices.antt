@@ -1,4 +1,4 @@
-use Rattle.outer.proofs.Filled.{Filled}
+use Rattle.outer_code.proofs.Filled.{Filled}
 use Rattle.outer.proofs.Division.{added}
 use Rattle.outer.proofs.shift_and_add.Given as given
 

@@ -1,0 +1,5 @@
+pub mod Running
+pub mod Shares
+pub mod Steps
+pub mod Evaluating
+pub mod Folding

@@ -1,0 +1,7 @@
+use mathlib.Core.Path.{_≡_}
+use lib.ListN.{length}
+use Rattle.outer_theory.specs.Rows.{Reduced}
+use Rattle.corrector.proofs.locator.locator.Given as given
+
+abbrev pub Inv-loop-j : given.InvT-loop-j
+Inv-loop-j l = Reduced (l .limit) (l .rows) (l .left) (l .syndromes) (l .j)

@@ -1,0 +1,11 @@
+pub mod Sums
+pub mod Vander
+pub mod Poly
+pub mod Word
+pub mod Locate
+pub mod Iff
+pub mod Reduce
+pub mod Values
+pub mod Products
+pub mod Order
+pub mod Correcting

@@ -1,0 +1,32 @@
+-- Combinations of syndromes: of limit + 1 rows of numbers some are left over, and each of those makes the first j sums vanish.
+-- Assumes nothing.
+use mathlib.Core.Path.{_≡_}
+use mathlib.Core.List.{List}
+use Prim.Native.Nat.{ℕ, suc, _+_, _*_, _<_, _≤_}
+use lib.ListN.{length, getD}
+use Rattle.field.specs.Field.{_⊕_, _⊗_}
+use Rattle.outer_theory.specs.Sums.{sum, count}
+
+abbrev pub at : List ℕ → ℕ → ℕ → ℕ
+at rows r l = getD rows (r * 9 + l) 0
+
+-- row r applied to the sums from j on
+unfoldable pub applied : ℕ → List ℕ → ℕ → List ℕ → ℕ → ℕ
+applied limit rows r s j = sum (suc limit) (λ l. at rows r l ⊗ getD s (j + l) 0)
+
+-- the rows' shape: row r has 1 at place r and 0 behind it
+pub record Shape (limit : ℕ) (rows : List ℕ) : Type 0 where
+  pub diagonal : (r : ℕ) → r ≤ limit → at rows r r ≡ 1
+  pub behind : (r l : ℕ) → r < l → l ≤ limit → at rows r l ≡ 0
+
+pub record Reduced (limit : ℕ) (rows left s : List ℕ) (j : ℕ) : Type 0 where
+  pub shape : Shape limit rows
+  pub kernel : (r : ℕ) → r ≤ limit → (getD left r 0 ≡ 0 → ⊥) → (i : ℕ) → i < j → applied limit rows r s i ≡ 0
+  pub many : suc limit ≤ count (suc limit) (λ r. getD left r 0) + j
+
+-- a sweep for sum j has come to row r; pivot is the first row that does not make it vanish, or past the last
+pub record Swept (limit : ℕ) (rows left s : List ℕ) (j r pivot : ℕ) : Type 0 where
+  pub shape : Shape limit rows
+  pub kernel : (r : ℕ) → r ≤ limit → (getD left r 0 ≡ 0 → ⊥) → (i : ℕ) → i < j → applied limit rows r s i ≡ 0
+  pub before : (i : ℕ) → i < r → (getD left i 0 ≡ 0 → ⊥) → (i ≡ pivot → ⊥) → applied limit rows i s j ≡ 0
+  pub found : pivot ≤ limit → (pivot < r) × (applied limit rows pivot s j ≡ 0 → ⊥) × (getD left pivot 0 ≡ 0 → ⊥)
