@@ -11,8 +11,12 @@ pub enum Refusal {
     DataLength,
     // not 192 points for each symbol
     PointCount,
+    // the output is shorter than the data
+    Output,
     // the memory lent is too short
     Memory,
+    // a block, counted from 1, that no outer word is near
+    Block(u8),
     // a record's mark is none of the program's
     UnknownMark,
     // a record ends before it is whole

@@ -13,7 +13,9 @@ impl Refusal {
             Refusal::Symbols => 3,
             Refusal::DataLength => 4,
             Refusal::PointCount => 5,
+            Refusal::Output => 6,
             Refusal::Memory => 7,
+            Refusal::Block(_) => 8,
             Refusal::UnknownMark => 19,
             Refusal::CutShort => 20,
         }

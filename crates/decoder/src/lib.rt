@@ -1,0 +1,2 @@
+//! The receiving chain: from the points of a burst to its data.
+mod blocks;
