@@ -20,7 +20,7 @@ use Rattle.constellation.specs.Constellation.{Width, width, level, in-phase, q
 use Rattle.constellation.specs.Decisions.{Decided, Heard, Decisions}
 use Rattle.constellation.specs.Steps.{Kept, Written, AxisHeard, PointHeard}
 use Rattle.constellation.proofs.Mapping.{width-of, value-one, q-is}
-use Rattle.constellation.proofs.Nearness.{decided-one, decided-own}
+use Rattle.constellation.proofs.Nearness.{decided-some, decided-one, decided-own}
 
 -- ---- one axis
 -- the first n of the b bits of v are written
@@ -155,6 +155,7 @@ sent-heard c n points sent m h =
 pub decisions : Decisions
 decisions =
     record {
+      some = decided-some;
       one = decided-one;
       own = decided-own;
       heard-one = heard-one;

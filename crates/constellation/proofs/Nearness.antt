@@ -2,16 +2,17 @@
 -- Assumes nothing.
 use mathlib.Core.Path.{_≡_, refl, sym, _∙_, ap, subst, subst₂}
 use mathlib.Core.Logic.{_⊎_, inl, inr}
-use Prim.Native.Nat.{ℕ, zero, suc, _+_, _-_, _*_, _/_, _^_, _<_, _≤_}
+use Prim.Native.Nat.{ℕ, zero, suc, _+_, _-_, _*_, _/_, _^_, _<_, _≤_, min}
 use native.Mathlib.Omega.{arith}
 use native.Mathlib.Decide.{decLt, ℕ-discrete}
+use native.Mathlib.Nat.{one-le-pow}
 use lib.Bits.{bitXor}
 use lib.Dec.{lit<}
 use lib.IntN.{ℤ, pos, negsuc, _+ℤ_, _-ℤ_, natAbs}
 use lib.Signed.{_≤ℤ_, _<ℤ_}
 use Rattle.std.proofs.shelf.Signed.{ints}
 use Rattle.constellation.specs.Constellation.{Width, level}
-use Rattle.constellation.specs.Decisions.{apart, Decided, DecisionCases}
+use Rattle.constellation.specs.Decisions.{apart, Decided, Verdict, DecisionCases}
 use Rattle.constellation.specs.Steps.{Ranked}
 use Rattle.constellation.proofs.Ranks.{rank, named, graded, level-is, rank-below, named-rank, gray-below, named-below, level-named}
 
@@ -79,6 +80,19 @@ ranked-by b x v w d = record { below = rank-below b v w (d .among); low = low (r
               | yes e ↦ (let k = g e in absurd (omega (arith, ints)))
               | no ne ↦ omega (arith, ints)
             ]
+
+-- ---- every axis value has a rank
+rank-of : ℕ → ℤ → ℕ
+rank-of l (pos a) = min (l - 1) ((a + 256 * l) / 512)
+rank-of l (negsuc a) = (256 * l - suc a) / 512
+
+ranked-of : (l : ℕ) (x : ℤ) → 0 < l → Ranked l x (rank-of l x)
+unfolding rank-of
+ranked-of l (pos a) h = record { below = omega arith; low = λ _. omega (arith, ints); high = λ k. omega (arith, ints) }
+ranked-of l (negsuc a) h = record { below = omega arith; low = λ k. omega (arith, ints); high = λ _. omega (arith, ints) }
+
+pub decided-some : (b : ℕ) (x : ℤ) → Width b → Verdict b x
+decided-some b x w = record { bits = named b (rank-of (2 ^ b) x); decided = decided-by b x (rank-of (2 ^ b) x) w (ranked-of (2 ^ b) x (one-le-pow b 2 (omega arith))) }
 
 -- ---- a level has its own rank, and no axis value has two
 graded-ranked : (l n : ℕ) → n < l → Ranked l (graded l n) n

@@ -21,6 +21,11 @@ pub record Decided (b : ℕ) (x : ℤ) (v : ℕ) : Type 0 where
   pub nearest : (u : ℕ) → u < 2 ^ b → apart x (level b v) ≤ apart x (level b u)
   pub greater : (u : ℕ) → u < 2 ^ b → apart x (level b u) ≡ apart x (level b v) → level b u ≤ℤ level b v
 
+-- some bits that x is decided to
+pub record Verdict (b : ℕ) (x : ℤ) : Type 0 where
+  pub bits : ℕ
+  pub decided : Decided b x bits
+
 -- the bits are those that n points are decided to; BPSK ignores Q
 pub record Heard (c n : ℕ) (points : List Point) (bits : Bits) : Type 0 where
   pub i : (t : ℕ) → t < n → Decided (width c) (getD points t origin .i) (in-phase c bits t)
@@ -28,7 +33,8 @@ pub record Heard (c n : ℕ) (points : List Point) (bits : Bits) : Type 0 where
 
 -- What deciding promises, for every modulation.
 pub record Decisions : Type 0 where
-  -- every axis value is decided in one way
+  -- every axis value is decided, and in one way
+  pub some : (b : ℕ) (x : ℤ) → Width b → Verdict b x
   pub one : (b : ℕ) (x : ℤ) (u v : ℕ) → Width b → Decided b x u → Decided b x v → u ≡ v
   -- a level is decided to its own bits
   pub own : (b v : ℕ) → Width b → v < 2 ^ b → Decided b (level b v) v

@@ -178,9 +178,10 @@ fn hear_point(c: usize, p: Point, t: usize, bits: &mut [bool])
     ensures { λ _. ⌜ PointHeard c t p (flags (now (bits .entry))) (flags (now (bits .exit))) ⌝ }
 {
     let b = width(c);
-    hear_axis(p.i, b, c * t, bits);
+    let Point { i, q } = p;
+    hear_axis(i, b, c * t, bits);
     if has_quadrature(c) {
-        hear_axis(p.q, b, c * t + b, bits);
+        hear_axis(q, b, c * t + b, bits);
     }
 }
 

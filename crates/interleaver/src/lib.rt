@@ -94,7 +94,14 @@ pub fn interleave(g: usize, c: usize, count: usize, coded: &[bool], sent: &mut [
 }
 
 // Reads every coded bit that is a whole number of strides from `first` back from its place.
-fn deinterleave_run(g: usize, c: usize, base: usize, first: usize, heard: &[bool], coded: &mut [bool])
+fn deinterleave_run(
+    g: usize,
+    c: usize,
+    base: usize,
+    first: usize,
+    heard: &[bool],
+    coded: &mut [bool],
+)
     requires some { ⌜ 0 < g ⌝ }
     requires few { ⌜ g ≤ 16 ⌝ }
     requires modulation { ⌜ Modulation c ⌝ }
