@@ -1,2 +1,3 @@
 pub mod Parts
 pub mod Taking
+pub mod Messages

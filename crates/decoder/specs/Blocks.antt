@@ -2,7 +2,7 @@
 -- Assumes nothing.
 use mathlib.Core.Path.{_≡_}
 use mathlib.Core.List.{List}
-use Prim.Native.Nat.{ℕ, _+_, _-_, _*_, _<_, _≤_}
+use Prim.Native.Nat.{ℕ, _+_, _-_, _*_, _/_, _%_, _<_, _≤_}
 use Rattle.std.specs.declared.option.Option.{Option}
 use Rattle.std.specs.declared.option.Option.the-variants.{None, Some}
 use Rattle.words.specs.Words.{Bytes, part}
@@ -32,3 +32,7 @@ pub record NoBlock (r : Request) (old : Bytes) (number : ℕ) : Type 0 where
   pub within : number ≤ r .symbols
   pub none : (w : List ℕ) → Taken r (number - 1) (nth r old (number - 1)) w → ⊥
   pub before : (b : ℕ) → b + 1 < number → (w : List ℕ) × Taken r b (nth r old b) w
+
+-- the message bytes of blocks of 2 * limit + size bytes, one after another
+unfoldable pub messages : ℕ → ℕ → Bytes → Bytes
+messages size limit w i = w ((2 * limit + size) * (i / size) + (2 * limit + i % size))
