@@ -10,7 +10,7 @@ use Rattle.std.specs.declared.option.Option.the-variants.{None, Some}
 use Rattle.std.specs.declared.result.Result.{Result}
 use Rattle.std.specs.declared.result.Result.the-variants.{Ok, Err}
 use Rattle.standard.specs.declared.refusal.Refusal.{Refusal}
-use Rattle.standard.specs.declared.refusal.Refusal.the-variants.{Rate, Identity, Symbols, DataLength, PointCount, UnknownMark, CutShort}
+use Rattle.standard.specs.declared.refusal.Refusal.the-variants.{Rate, Identity, Symbols, DataLength, PointCount, Memory, UnknownMark, CutShort}
 use Rattle.standard.specs.declared.order.Request.{Request}
 use Rattle.standard.specs.declared.order.Order.{Order}
 use Rattle.standard.specs.Profiles.{profile}
@@ -21,6 +21,7 @@ number Identity = 2
 number Symbols = 3
 number DataLength = 4
 number PointCount = 5
+number Memory = 7
 number UnknownMark = 19
 number CutShort = 20
 

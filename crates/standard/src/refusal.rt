@@ -11,6 +11,8 @@ pub enum Refusal {
     DataLength,
     // not 192 points for each symbol
     PointCount,
+    // the memory lent is too short
+    Memory,
     // a record's mark is none of the program's
     UnknownMark,
     // a record ends before it is whole

@@ -13,6 +13,7 @@ impl Refusal {
             Refusal::Symbols => 3,
             Refusal::DataLength => 4,
             Refusal::PointCount => 5,
+            Refusal::Memory => 7,
             Refusal::UnknownMark => 19,
             Refusal::CutShort => 20,
         }

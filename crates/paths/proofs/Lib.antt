@@ -1,0 +1,13 @@
+pub mod Paths
+pub mod Rows
+pub mod Entries
+pub mod Stages
+pub mod Reaches
+pub mod Finish
+pub mod Pushed
+pub mod Pushes
+pub mod CostEnds
+pub mod Lanes
+pub mod Lanewise
+pub mod Values
+pub mod Backs

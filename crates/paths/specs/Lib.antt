@@ -1,0 +1,4 @@
+pub mod Model
+pub mod Ties
+pub mod Answers
+pub mod Replies
