@@ -1,0 +1,4 @@
+pub mod Stages
+pub mod Receiving
+pub mod Laws
+pub mod Words

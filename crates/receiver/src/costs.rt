@@ -1,0 +1,56 @@
+ghost use Prim.Native.Nat.{_<_};
+ghost use Rattle.inner_words.specs.Receiving.{differs as differing, x-of, y-of};
+ghost use Rattle.receiver.specs.Kinds.{Costs, cost-in, heard-in};
+ghost use mathlib.Core.Path.{_≡_};
+
+// The windows of the encoder: six bits of its register and the present one.
+pub const WINDOWS: usize = 128;
+
+// The costs of all windows at a stage of each of the nine kinds.
+pub const COSTS: usize = 1152;
+
+// X at a window.
+fn x_output(window: usize) -> bool
+    requires { ⌜ window < 128 ⌝ }
+    ensures { λ r. ⌜ r ≡ x-of window ⌝ }
+{
+    (window + window / 2 + window / 4 + window / 8 + window / 64) % 2 == 1
+}
+
+// Y at a window.
+fn y_output(window: usize) -> bool
+    requires { ⌜ window < 128 ⌝ }
+    ensures { λ r. ⌜ r ≡ y-of window ⌝ }
+{
+    (window + window / 4 + window / 8 + window / 32 + window / 64) % 2 == 1
+}
+
+// What an output costs against what was heard of it: 0, 1, or 2 where it is punctured.
+fn differs(output: bool, heard: usize) -> u16
+    ensures cost { λ r. ⌜ r ≡ differing output (heard-in heard) ⌝ }
+    ensures small { λ r. ⌜ r < 2 ⌝ }
+{
+    if heard == 2 {
+        0
+    } else if output == (heard == 1) {
+        0
+    } else {
+        1
+    }
+}
+
+fn cost(kind: usize, window: usize) -> u16
+    requires { ⌜ window < 128 ⌝ }
+    ensures { λ r. ⌜ r ≡ cost-in kind window ⌝ }
+{
+    differs(x_output(window), kind % 3) + differs(y_output(window), kind / 3)
+}
+
+// What each window costs at a stage of each kind.
+pub(crate) fn fill_costs(costs: &mut [u16; 1152])
+    ensures { λ _. ⌜ Costs (now (costs .exit)) 1152 ⌝ }
+{
+    for i in 0..COSTS {
+        costs[i] = cost(i / WINDOWS, i % WINDOWS);
+    }
+}
