@@ -5,10 +5,12 @@ use mathlib.Core.List.{List}
 use Prim.Native.Nat.{ℕ, suc, _+_, _-_, _*_, _/_, _%_, _<_, _≤_}
 use native.Mathlib.Omega.{arith}
 use native.Mathlib.Decide.{ℕ-discrete}
-use native.Mathlib.Nat.{div-add-mod, mod-lt, mul-suc}
+use native.Mathlib.Nat.{div-add-mod, div-lt-iff-lt-mul, mod-lt, mul-comm, mul-le-mul-left, mul-suc}
 use lib.ListN.{length, getD, set}
 use lib.Seq.{getD-set-same, getD-set-other}
 use Rattle.words.specs.Words.{Bytes, word}
+use Rattle.standard.specs.declared.profile.Profile.{Profile}
+use Rattle.standard.specs.Profiles.{Fitting}
 use Rattle.coder.proofs.Lawfulness.{in-symbol}
 use Rattle.decoder.specs.Blocks.{messages}
 
@@ -54,3 +56,15 @@ copied-more size limit i from blocks out l e inv k h =
       | yes q ↦ ap (λ (m : ℕ). getD (set out i (getD blocks from 0)) m 0) q ∙ getD-set-same out i (getD blocks from 0) 0 l ∙ ap (λ (m : ℕ). getD blocks m 0) (e ∙ ap (place size limit) (sym q))
       | no q ↦ getD-set-other out i k (getD blocks from 0) 0 q ∙ inv k (omega arith)
     ]
+
+-- every message byte stands in a block
+pub place-within : (p : Profile) (n room i : ℕ) → Fitting p → n * p .block ≤ room → i < n * p .message → place (p .message) (p .limit) i < room
+place-within p n room i f there h =
+    let some : 0 < p .message = omega (arith, f .some) in
+    let q : i / p .message < n = div-lt-iff-lt-mul some .1 h in
+    let m = mod-lt i some in
+    let a : p .block * suc (i / p .message) ≤ p .block * n = mul-le-mul-left (p .block) q in
+    let s = mul-suc (p .block) (i / p .message) in
+    let c = mul-comm (p .block) n in
+    let w : (2 * p .limit + p .message) * (i / p .message) ≡ p .block * (i / p .message) = ap (λ (x : ℕ). x * (i / p .message)) (sym (f .parity)) in
+    omega (arith, f .parity)
