@@ -1,3 +1,5 @@
 pub mod Parts
 pub mod Taking
 pub mod Messages
+pub mod Packing
+pub mod Data

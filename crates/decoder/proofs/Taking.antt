@@ -78,7 +78,7 @@ module _ (r : Request) where
   pub blocks-start : (old : Bytes) → BlocksTaken r 0 old old 0
   blocks-start old = record { taken = λ b h. absurd (omega arith); summed = refl; rest = λ k h. refl }
 
-  total-same : (n : ℕ) (f g : ℕ → ℕ) → ((k : ℕ) → k < n → f k ≡ g k) → total n f ≡ total n g
+  pub total-same : (n : ℕ) (f g : ℕ → ℕ) → ((k : ℕ) → k < n → f k ≡ g k) → total n f ≡ total n g
   total-same zero f g h = refl
   total-same (suc n) f g h = ap₂ _+_ (total-same n f g (λ k l. h k (omega arith))) (h n (omega arith))
 

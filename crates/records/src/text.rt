@@ -13,7 +13,7 @@ use crate::record::Mark;
 use std::alloc::AllocError;
 use std::alloc::Global;
 use std::fmt;
-use words::digit;
+use words::nibble;
 
 pub impl fmt::Display for Mark as MarkDisplay {
     ghost shown = { λ m. Some (named m) };
@@ -43,15 +43,6 @@ fn hex_digit(n: u8) -> char
     } else {
         (b'A' + (n - 10)) as char
     }
-}
-
-// The four bits from `at` on as a number, highest first.
-fn nibble(bits: &[bool], at: usize) -> u8
-    requires { ⌜ at + 4 ≤ length (now bits) ⌝ }
-    ensures value { λ r. ⌜ r ≡ value 4 (λ t. flags (now (bits .entry)) (at + t)) ⌝ }
-    ensures below { λ r. ⌜ r < 16 ⌝ }
-{
-    digit(bits[at]) * 8 + digit(bits[at + 1]) * 4 + digit(bits[at + 2]) * 2 + digit(bits[at + 3])
 }
 
 // Adds the first bits, four to a hexadecimal capital.

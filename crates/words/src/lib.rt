@@ -1,6 +1,6 @@
 //! Bits and bytes by position, highest bit first: definitions that every step of the chains shares, and their laws.
-ghost use Prim.Native.Nat.{ℕ, _*_, _<_};
-ghost use Rattle.words.specs.Words.{Bits, Bytes, bits, bytes, digit as digited, word};
+ghost use Prim.Native.Nat.{ℕ, _+_, _*_, _<_, _≤_};
+ghost use Rattle.words.specs.Words.{Bits, Bytes, bits, bytes, digit as digited, flags, value, word};
 ghost use lib.ListN.{length};
 ghost use mathlib.Core.Path.{_≡_};
 
@@ -18,6 +18,15 @@ pub fn digit(b: bool) -> u8
     ensures below { λ r. ⌜ r < 2 ⌝ }
 {
     if b { 1 } else { 0 }
+}
+
+// The four bits from `at` on as a number, highest first.
+pub fn nibble(bits: &[bool], at: usize) -> u8
+    requires { ⌜ at + 4 ≤ length (now bits) ⌝ }
+    ensures value { λ r. ⌜ r ≡ value 4 (λ t. flags (now (bits .entry)) (at + t)) ⌝ }
+    ensures below { λ r. ⌜ r < 16 ⌝ }
+{
+    digit(bits[at]) * 8 + digit(bits[at + 1]) * 4 + digit(bits[at + 2]) * 2 + digit(bits[at + 3])
 }
 
 // Bits and bytes say the same: see the contract.

@@ -4,9 +4,9 @@ use native.Mathlib.Omega.{arith}
 use native.Mathlib.Nat.{add-zero}
 use lib.ListN.{getD}
 use mathlib.Core.Bool.{false}
 use Rattle.words.specs.Words.{flags, digit, value}
 use Rattle.words.proofs.Bridge.{value-below}
-use Rattle.records.proofs.text.nibble.Needs as need
+use Rattle.words.proofs.nibble.Needs as need
 
 pub returns : need.returns
 unfolding value
