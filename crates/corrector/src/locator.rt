@@ -1,14 +1,11 @@
 ghost use Prim.Native.Nat.{ℕ, suc, _+_, _-_, _*_, _<_, _≤_};
-ghost use Rattle.field.specs.Field.{_⊕_, _⊗_, gexp, gpow};
+ghost use Rattle.field.specs.Field.{_⊕_, _⊗_};
 ghost use Rattle.outer_theory.specs.Rows.{Reduced, Shape, Swept, applied, at};
 ghost use Rattle.outer_theory.specs.Sums.{count, sum};
-ghost use Rattle.outer_theory.specs.Syndromes.{X};
 ghost use lib.ListN.{getD};
 ghost use mathlib.Core.Path.{_≡_};
-use crate::syndromes::add_powers;
 use crate::syndromes::place;
 use field::inverse;
-use field::log;
 use field::mul;
 
 // Nine rows of nine coefficients: row r has 1 at place r, and 0 elsewhere.

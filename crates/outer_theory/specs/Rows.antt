@@ -3,8 +3,8 @@
 use mathlib.Core.Path.{_≡_}
 use mathlib.Core.List.{List}
 use Prim.Native.Nat.{ℕ, suc, _+_, _*_, _<_, _≤_}
-use lib.ListN.{length, getD}
-use Rattle.field.specs.Field.{_⊕_, _⊗_}
+use lib.ListN.{getD}
+use Rattle.field.specs.Field.{_⊗_}
 use Rattle.outer_theory.specs.Sums.{sum, count}
 
 abbrev pub at : List ℕ → ℕ → ℕ → ℕ

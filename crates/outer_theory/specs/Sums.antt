@@ -25,4 +25,3 @@ one-if-zero (suc a) = 0
 unfoldable pub zeros : ℕ → (ℕ → ℕ) → ℕ
 zeros zero f = 0
 zeros (suc n) f = zeros n f + one-if-zero (f n)
-

@@ -1,7 +1,7 @@
 use mathlib.Core.Path.{_≡_, _∙_, ap}
 use native.Mathlib.Omega.{arith}
-use Prim.Native.Nat.{ℕ, suc, _<_, _+_, _*_}
-use lib.ListN.{length, getD}
+use Prim.Native.Nat.{ℕ, suc, _+_}
+use lib.ListN.{getD}
 use Rattle.field.specs.Field.{_⊗_}
 use Rattle.outer_theory.specs.Sums.{sum}
 use Rattle.outer_theory.specs.Rows.{at, applied}

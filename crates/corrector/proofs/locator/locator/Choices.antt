@@ -1,5 +1,3 @@
-use mathlib.Core.Path.{_≡_}
-use lib.ListN.{length}
 use Rattle.outer_theory.specs.Rows.{Reduced}
 use Rattle.corrector.proofs.locator.locator.Given as given
 
