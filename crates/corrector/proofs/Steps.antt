@@ -15,7 +15,7 @@ use native.Mathlib.Nat.{le-refl}
 use Rattle.outer_code.proofs.Filled as F
 use Rattle.outer_code.proofs.Filled.{Filled}
 use Rattle.outer_theory.specs.Sums.{sum}
-use Rattle.outer_theory.specs.Rows.{at}
+use Rattle.outer_theory.proofs.Rows.{at}
 use Rattle.outer_theory.proofs.Sums.{sum-suc}
 
 pub filled-more : (s : List ℕ) (j v : ℕ) (P : ℕ → ℕ) → j < length s → ((k : ℕ) → k < j → getD s k 0 ≡ P k) → v ≡ P j → (k : ℕ) → k < j + 1 → getD (set s j v) k 0 ≡ P k

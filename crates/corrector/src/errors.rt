@@ -1,6 +1,6 @@
 ghost use Prim.Native.Nat.{ℕ, suc, _+_, _-_, _*_, _<_, _≤_};
 ghost use Rattle.field.specs.Field.{_⊕_, _⊗_, gexp, gpow};
-ghost use Rattle.outer_theory.specs.Errors.{Errors};
+ghost use Rattle.outer_theory.proofs.Errors.{Errors};
 ghost use Rattle.outer_theory.specs.Sums.{sum};
 ghost use Rattle.outer_theory.specs.Syndromes.{X};
 ghost use lib.ListN.{getD};

@@ -14,11 +14,11 @@ use Rattle.field.proofs.Field.{add-assoc, add-self, zero-add, add-lt}
 use Rattle.field.proofs.Powers.{zero-if-same}
 use Rattle.words.specs.Words.{word}
 use Rattle.outer_code.specs.Outer.{AreBytes, Outer}
-use Rattle.outer_theory.specs.Sums.{sum, count, one-if, zeros}
+use Rattle.outer_theory.specs.Sums.{sum, count, one-if}
 use Rattle.outer_theory.specs.Syndromes.{syndrome, differing, X, V}
 use Rattle.outer_theory.specs.Correction.{Corrected}
-use Rattle.outer_theory.specs.Errors.{Errors}
-use Rattle.outer_theory.proofs.Sums.{sum-same, count-none}
+use Rattle.outer_theory.proofs.Errors.{Errors}
+use Rattle.outer_theory.proofs.Sums.{zeros, sum-same, count-none}
 use Rattle.outer_theory.proofs.Poly.{ev, ev-sum, Zero, AllBytes, few-roots, zeros-le}
 use Rattle.outer_theory.proofs.Locate.{moment, moment-add, moment-same, poly, located, sums-of-error}
 use Rattle.outer_theory.proofs.Iff.{syndrome-is, X-lt, X-apart, V-lt, V-nonzero, outer-bytes, outer-syndromes, syndromes-outer, only-one}

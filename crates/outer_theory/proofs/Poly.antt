@@ -8,9 +8,9 @@ use native.Mathlib.Nat.{le-refl, le-step}
 use lib.ListN.{length, getD}
 use Rattle.field.specs.Field.{_⊕_, _⊗_, gpow}
 use Rattle.field.proofs.Field.{add-comm, add-self, add-zero, zero-add, add-lt, add-swap, mul-left-comm, mul-add, add-mul, mul-lt, mul-zero, mul-one, no-divisors}
-use Rattle.outer_theory.specs.Sums.{sum, zeros, one-if-zero}
+use Rattle.outer_theory.specs.Sums.{sum}
 use Rattle.field.proofs.Powers.{same-if-zero, pow-zero, pow-suc}
-use Rattle.outer_theory.proofs.Sums.{sum-mul, sum-same, sum-front}
+use Rattle.outer_theory.proofs.Sums.{zeros, one-if-zero, sum-mul, sum-same, sum-front}
 
 -- the value of a polynomial whose lowest coefficient stands first
 unfoldable pub ev : List ℕ → ℕ → ℕ

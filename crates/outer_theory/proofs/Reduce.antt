@@ -16,7 +16,7 @@ use Rattle.field.specs.Field.{_⊕_, _⊗_}
 use Rattle.field.proofs.Field.{add-zero, add-mul, mul-assoc, mul-zero, mul-one, mul-lt}
 use Rattle.field.proofs.Tests.{all, all-at}
 use Rattle.outer_theory.specs.Sums.{sum, count, one-if}
-use Rattle.outer_theory.specs.Rows.{at, applied, Shape, Reduced, Swept}
+use Rattle.outer_theory.proofs.Rows.{at, applied, Shape, Reduced, Swept}
 use Rattle.field.proofs.Powers.{zero-if-same}
 use Rattle.outer_theory.proofs.Sums.{sum-same, sum-add, sum-mul, sum-lt, count-le, count-all}
 

@@ -10,7 +10,16 @@ use native.Mathlib.Numerals.{add-one}
 use Rattle.field.specs.Field.{_⊕_, _⊗_}
 use Rattle.field.proofs.Field.{add-assoc, add-comm, add-zero, zero-add, add-lt, add-swap, mul-add, mul-zero}
 use Rattle.field.proofs.Powers.{same-if-zero, zero-if-same}
-use Rattle.outer_theory.specs.Sums.{sum, count, one-if, zeros, one-if-zero}
+use Rattle.outer_theory.specs.Sums.{sum, count, one-if}
+
+-- how many of f 0, .., f (n - 1) are 0
+abbrev pub one-if-zero : ℕ → ℕ
+one-if-zero zero = 1
+one-if-zero (suc a) = 0
+
+unfoldable pub zeros : ℕ → (ℕ → ℕ) → ℕ
+zeros zero f = 0
+zeros (suc n) f = zeros n f + one-if-zero (f n)
 
 -- ---- sums
 pub sum-suc : (n : ℕ) (f : ℕ → ℕ) → sum (suc n) f ≡ sum n f ⊕ f n

@@ -13,14 +13,14 @@ use lib.ListN.{length, getD}
 use borrow.Author.Tests.{eq-eqb, ne-eqb}
 use Rattle.field.specs.Field.{_⊕_, _⊗_, gpow}
 use Rattle.field.proofs.Field.{add-zero, zero-add, add-self, mul-assoc, mul-comm, mul-zero, zero-mul, mul-one, mul-lt, add-lt, no-divisors}
-use Rattle.outer_theory.specs.Sums.{sum, zeros, one-if-zero}
+use Rattle.outer_theory.specs.Sums.{sum}
 use Rattle.words.specs.Words.{word}
 use Rattle.outer_theory.specs.Syndromes.{X, V, syndrome}
-use Rattle.outer_theory.specs.Errors.{Errors}
+use Rattle.outer_theory.proofs.Errors.{Errors}
 use Rattle.outer_theory.proofs.Iff.{X-lt, X-apart, V-lt, V-nonzero}
 use native.Mathlib.Numerals.{add-one}
 use Rattle.field.proofs.Powers.{pow-zero, same-if-zero}
-use Rattle.outer_theory.proofs.Sums.{sum-same, sum-none}
+use Rattle.outer_theory.proofs.Sums.{zeros, one-if-zero, sum-same, sum-none}
 use Rattle.outer_theory.proofs.Vander.{step}
 
 -- a where an index is passed over, b where it is taken

@@ -5,7 +5,7 @@ use Rattle.outer_theory.proofs.Reduce.{reduced-start, row-vanishes}
 use Rattle.corrector.proofs.locator.locator.Needs as need
 
 pub loop-j-holds : need.loop-j-holds
-loop-j-holds c = reduced-start (c .args .limit) (c .unit-rows-rows .result) _ (c .args .syndromes .now) (omega arith) (c .unit-rows-rows .ensures) (λ k h. getD-replicate 9 k 1 0 h)
+loop-j-holds c = reduced-start (c .args .limit) (c .unit-rows-rows .result) _ (c .args .syndromes .now) (omega arith) (c .unit-rows-rows .ensures (c .args .limit) (omega arith)) (λ k h. getD-replicate 9 k 1 0 h)
 
 pub returns : need.returns
 returns c =

@@ -1,7 +1,7 @@
 use mathlib.Core.Path.{refl, _∙_}
 use native.Mathlib.Omega.{arith}
 use lib.ListN.{length-set}
-use Rattle.outer_theory.specs.Rows.{at}
+use Rattle.outer_theory.proofs.Rows.{at}
 use Rattle.corrector.proofs.Steps.{filled-more}
 use Rattle.corrector.proofs.locator.row_of.Needs as need
 
