@@ -1,6 +1,5 @@
 //! Damages outer words of every profile and corrects them: what must come back comes back, and what comes back is an outer word.
 ghost use Prim.Native.Nat.{_+_, _-_, _*_, _<_, _≤_};
-ghost use lib.ListN.{length};
 use std::io;
 
 // The longest message and the longest block.
@@ -130,15 +129,6 @@ fn is_outer_word(block: &[u8; BLOCK], size: usize, limit: usize) -> bool
     differing(block, &again, 2 * limit + size) == 0
 }
 
-fn correct(block: &mut [u8], size: usize, limit: usize, most: usize) -> Option<usize>
-    requires short { ⌜ size ≤ 108 ⌝ }
-    requires few { ⌜ limit ≤ 8 ⌝ }
-    requires within { ⌜ most ≤ limit ⌝ }
-    requires room { ⌜ 2 * limit + size ≤ length (now block) ⌝ }
-{
-    corrector::correct(&mut block[..2 * limit + size], size, limit, most)
-}
-
 fn judge(
     word: &[u8; BLOCK],
     before: &[u8; BLOCK],
@@ -190,7 +180,7 @@ fn agrees(
     requires room { ⌜ 2 * limit + size ≤ 120 ⌝ }
 {
     let mut block = *before;
-    let again = correct(&mut block, size, limit, most);
+    let again = corrector::correct_at(&mut block, 0, size, limit, most);
     let within = match answer {
         Some(count) => count <= most,
         None => false,
@@ -228,7 +218,7 @@ fn try_block(word: &[u8; BLOCK], before: &[u8; BLOCK], size: usize, limit: usize
     requires room { ⌜ 2 * limit + size ≤ 120 ⌝ }
 {
     let mut after = *before;
-    let answer = correct(&mut after, size, limit, limit);
+    let answer = corrector::correct_at(&mut after, 0, size, limit, limit);
     tally.tried = tally.tried.saturating_add(1);
     if !all_agree(before, &after, answer, size, limit) {
         tally.wrong = tally.wrong.saturating_add(1);
