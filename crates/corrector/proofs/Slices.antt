@@ -19,7 +19,7 @@ module _ (a n : ℕ) (xs : List ℕ) (h : a + n ≤ length xs) where
   part-mid =
       ext-getD 0 (part n a (word xs)) (midOf a (a + n - a) xs) (length-listed n (λ i. word xs (a + i)) ∙ sym (mid-len a (a + n) xs h ∙ let e : a + n - a ≡ n = omega arith in e))
       (λ k l. (let b : k < n = subst (λ (m : ℕ). k < m) (length-listed n (λ i. word xs (a + i))) l in
-        getD-listed n (λ i. word xs (a + i)) k b ∙ sym (getD-take (a + n - a) (drop a xs) k 0 (omega arith) ∙ getD-drop a xs k 0)))
+      getD-listed n (λ i. word xs (a + i)) k b ∙ sym (getD-take (a + n - a) (drop a xs) k 0 (omega arith) ∙ getD-drop a xs k 0)))
 
   module _ (ys : List ℕ) (ly : length ys ≡ n) where
     -- the row with ys in its place
@@ -30,10 +30,10 @@ module _ (a n : ℕ) (xs : List ℕ) (h : a + n ≤ length xs) where
     part-put =
         ext-getD 0 (part n a (word row)) ys (length-listed n (λ i. word row (a + i)) ∙ sym ly)
         (λ k l. (let b : k < n = subst (λ (m : ℕ). k < m) (length-listed n (λ i. word row (a + i))) l in
-          getD-listed n (λ i. word row (a + i)) k b
-          ∙ getD-append-right (take a xs) (ys ++ postOf a (a + n - a) xs) a (a + k) 0 before-length (omega arith)
-          ∙ ap (λ (m : ℕ). getD (ys ++ postOf a (a + n - a) xs) m 0) (let e : a + k - a ≡ k = omega arith in e)
-          ∙ getD-append-left ys (postOf a (a + n - a) xs) 0 k (omega arith)))
+        getD-listed n (λ i. word row (a + i)) k b
+        ∙ getD-append-right (take a xs) (ys ++ postOf a (a + n - a) xs) a (a + k) 0 before-length (omega arith)
+        ∙ ap (λ (m : ℕ). getD (ys ++ postOf a (a + n - a) xs) m 0) (let e : a + k - a ≡ k = omega arith in e)
+        ∙ getD-append-left ys (postOf a (a + n - a) xs) 0 k (omega arith)))
 
     pub put-before : (k : ℕ) → k < a → getD row k 0 ≡ getD xs k 0
     put-before k l = getD-append-left (take a xs) (ys ++ postOf a (a + n - a) xs) 0 k (omega (arith, before-length)) ∙ getD-take a xs k 0 l

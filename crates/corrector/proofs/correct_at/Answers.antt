@@ -19,12 +19,12 @@ returns c =
     let row : List ℕ = putMid (c .args .at) (c .args .at + n - c .args .at) (c .args .bytes .now) (c .correct .last .block) in
     record {
       answer =
-        subst (λ (b : List ℕ). BySome (c .correct .result) (Refused (c .args .size) (c .args .limit) (c .args .most) b (part n (c .args .at) (word row)))
-            (λ wrong. Corrected (c .args .size) (c .args .limit) (c .args .most) b (part n (c .args .at) (word row)) wrong))
+          subst (λ (b : List ℕ). BySome (c .correct .result) (Refused (c .args .size) (c .args .limit) (c .args .most) b (part n (c .args .at) (word row)))
+          (λ wrong. Corrected (c .args .size) (c .args .limit) (c .args .most) b (part n (c .args .at) (word row)) wrong))
           (sym (part-mid (c .args .at) n (c .args .bytes .now) (c .pre .there)))
           (subst (λ (b : List ℕ). BySome (c .correct .result) (Refused (c .args .size) (c .args .limit) (c .args .most) old b)
-              (λ wrong. Corrected (c .args .size) (c .args .limit) (c .args .most) old b wrong))
-            (sym (part-put (c .args .at) n (c .args .bytes .now) (c .pre .there) (c .correct .last .block) l)) (c .correct .ensures));
+          (λ wrong. Corrected (c .args .size) (c .args .limit) (c .args .most) old b wrong))
+          (sym (part-put (c .args .at) n (c .args .bytes .now) (c .pre .there) (c .correct .last .block) l)) (c .correct .ensures));
       before = put-before (c .args .at) n (c .args .bytes .now) (c .pre .there) (c .correct .last .block) l;
       behind = put-behind (c .args .at) n (c .args .bytes .now) (c .pre .there) (c .correct .last .block) l;
     }
