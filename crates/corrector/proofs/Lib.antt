@@ -3,3 +3,4 @@ pub mod Shares
 pub mod Steps
 pub mod Evaluating
 pub mod Folding
+pub mod Slices

@@ -1,9 +1,9 @@
 -- The powers that a loop adds to a row of values, its exponent running along.
 -- Assumes nothing.
-use mathlib.Core.Path.{_≡_, refl, sym, _∙_, ap, ap₂, subst}
+use mathlib.Core.Path.{_≡_, sym, _∙_, ap, ap₂}
 use mathlib.Core.Logic.{_⊎_, inl, inr}
 use mathlib.Core.List.{List}
-use Prim.Native.Nat.{ℕ, suc, _+_, _-_, _<_, _≤_}
+use Prim.Native.Nat.{ℕ, _+_, _-_, _<_, _≤_}
 use native.Mathlib.Omega.{arith}
 use native.Mathlib.Nat.{le-refl}
 use native.Mathlib.Numerals.{add-one}
@@ -28,9 +28,11 @@ pub record Running (start step : ℕ) (old values : List ℕ) (exponent i : ℕ)
 
 pub running-start : (start step : ℕ) (old : List ℕ) → start < 255 → Running start step old old start 0
 running-start start step old h =
-    record { filled = filled-start (added start step old) 0 old
-           ; power = sym (ap (λ (y : ℕ). gexp start ⊗ y) (pow-zero (gexp step)) ∙ mul-one (gexp start) (exp-lt start))
-           ; low = h }
+    record {
+      filled = filled-start (added start step old) 0 old;
+      power = sym (ap (λ (y : ℕ). gexp start ⊗ y) (pow-zero (gexp step)) ∙ mul-one (gexp start) (exp-lt start));
+      low = h;
+    }
 
 stepped : (start step exponent exponent' i : ℕ) → gexp exponent ≡ gexp start ⊗ gpow (gexp step) i → (exponent' ≡ exponent + step) ⊎ (exponent' + 255 ≡ exponent + step)
     → gexp exponent' ≡ gexp start ⊗ gpow (gexp step) (i + 1)
@@ -49,10 +51,12 @@ pub running-more : (start step : ℕ) (old values : List ℕ) (exponent exponent
     → Running start step old values exponent i → Running start step old (set values i (bitXor (getD values i 0) p)) exponent' (i + 1)
 unfolding _⊕_
 running-more start step old values exponent exponent' i p l ep why low w =
-    record { filled = filled-more (added start step old) 0 i (bitXor (getD values i 0) p) old values (w .filled) (omega arith) l
-               (ap₂ bitXor (w .filled .behind i (le-refl i)) (ep ∙ w .power))
-           ; power = stepped start step exponent exponent' i (w .power) why
-           ; low = low }
+    record {
+      filled = filled-more (added start step old) 0 i (bitXor (getD values i 0) p) old values (w .filled) (omega arith) l
+          (ap₂ bitXor (w .filled .behind i (le-refl i)) (ep ∙ w .power));
+      power = stepped start step exponent exponent' i (w .power) why;
+      low = low;
+    }
 
 -- the table of the triangular numbers
 unfoldable pub triangles : List ℕ

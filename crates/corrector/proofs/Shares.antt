@@ -1,15 +1,15 @@
 -- What each byte of a block gives to its syndromes.
 -- Assumes nothing.
-use mathlib.Core.Path.{_≡_, refl, sym, _∙_, ap, ap₂, subst}
+use mathlib.Core.Path.{_≡_, sym, _∙_, ap, ap₂}
 use mathlib.Core.List.{List}
-use Prim.Native.Nat.{ℕ, zero, suc, _+_, _-_, _%_, _<_, _≤_}
+use Prim.Native.Nat.{ℕ, _+_, _-_, _%_, _<_, _≤_}
 use native.Mathlib.Numerals.{add-one}
 use native.Mathlib.Omega.{arith}
 use lib.ListN.{getD, replicate}
 use Rattle.std.proofs.shelf.Lists.{getD-replicate}
 use Rattle.field.specs.Field.{_⊕_, _⊗_, gexp, gpow}
 use Rattle.field.proofs.Field.{add-zero, exp-mul, zero-mul}
-use Rattle.words.specs.Words.{Bytes, word}
+use Rattle.words.specs.Words.{Bytes}
 use Rattle.outer_theory.specs.Sums.{sum}
 use Rattle.outer_theory.specs.Syndromes.{V, X, place, weight, syndrome}
 use Rattle.outer_theory.proofs.Products.{exp-mod}

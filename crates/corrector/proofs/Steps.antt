@@ -1,13 +1,13 @@
 -- One turn of the loops over rows and blocks.
 -- Assumes nothing.
-use mathlib.Core.Path.{_≡_, refl, sym, _∙_, ap, ap₂, subst}
+use mathlib.Core.Path.{_≡_, refl, sym, _∙_, ap, ap₂}
 use mathlib.Core.Logic.{_≢_}
 use mathlib.Core.List.{List}
-use Prim.Native.Nat.{ℕ, zero, suc, _+_, _-_, _*_, _<_, _≤_}
+use Prim.Native.Nat.{ℕ, _+_, _-_, _*_, _<_, _≤_}
 use native.Mathlib.Omega.{arith}
 use borrow.Author.Count.{below-more}
 use lib.Bits.{bitXor}
-use lib.ListN.{length, getD, set, length-set}
+use lib.ListN.{length, getD, set}
 use lib.Seq.{getD-set-same, getD-set-other}
 use Rattle.field.specs.Field.{_⊕_, _⊗_}
 use native.Mathlib.Numerals.{add-one}
@@ -15,7 +15,7 @@ use native.Mathlib.Nat.{le-refl}
 use Rattle.outer_code.proofs.Filled as F
 use Rattle.outer_code.proofs.Filled.{Filled}
 use Rattle.outer_theory.specs.Sums.{sum}
-use Rattle.outer_theory.specs.Rows.{at}
+use Rattle.outer_theory.proofs.Rows.{at}
 use Rattle.outer_theory.proofs.Sums.{sum-suc}
 
 pub filled-more : (s : List ℕ) (j v : ℕ) (P : ℕ → ℕ) → j < length s → ((k : ℕ) → k < j → getD s k 0 ≡ P k) → v ≡ P j → (k : ℕ) → k < j + 1 → getD (set s j v) k 0 ≡ P k
@@ -46,10 +46,10 @@ module _ (old rows : List ℕ) (r p c l m : ℕ) (long : length rows ≡ 81) (hr
   unfolding new _⊕_
   row-done =
       below-more (λ k. at new r k ≡ at old r k ⊕ (c ⊗ at old p k)) l
-        (λ k h. let ne : r * 9 + k ≢ r * 9 + l = omega arith in getD-set-other rows (r * 9 + l) (r * 9 + k) (bitXor (at rows r l) m) 0 ne ∙ done k h)
-        (let lt : r * 9 + l < length rows = omega arith in
-          getD-set-same rows (r * 9 + l) (bitXor (at rows r l) m) 0 lt
-          ∙ ap₂ bitXor (left l (omega arith)) (is ∙ ap (λ (y : ℕ). c ⊗ y) (other p l hl (λ e. omega arith))))
+      (λ k h. let ne : r * 9 + k ≢ r * 9 + l = omega arith in getD-set-other rows (r * 9 + l) (r * 9 + k) (bitXor (at rows r l) m) 0 ne ∙ done k h)
+      (let lt : r * 9 + l < length rows = omega arith in
+      getD-set-same rows (r * 9 + l) (bitXor (at rows r l) m) 0 lt
+      ∙ ap₂ bitXor (left l (omega arith)) (is ∙ ap (λ (y : ℕ). c ⊗ y) (other p l hl (λ e. omega arith))))
 
 -- one more term of a sum
 pub sum-more : (n s r : ℕ) (f : ℕ → ℕ) → s ≡ sum n f → r ≡ f n → bitXor s r ≡ sum (n + 1) f

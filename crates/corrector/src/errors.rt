@@ -1,9 +1,9 @@
 ghost use Prim.Native.Nat.{ℕ, suc, _+_, _-_, _*_, _<_, _≤_};
 ghost use Rattle.field.specs.Field.{_⊕_, _⊗_, gexp, gpow};
-ghost use Rattle.outer_theory.specs.Errors.{Errors};
+ghost use Rattle.outer_theory.proofs.Errors.{Errors};
 ghost use Rattle.outer_theory.specs.Sums.{sum};
 ghost use Rattle.outer_theory.specs.Syndromes.{X};
-ghost use lib.ListN.{getD, length};
+ghost use lib.ListN.{getD};
 ghost use mathlib.Core.Path.{_≡_};
 use crate::syndromes::add_powers;
 use crate::syndromes::place;

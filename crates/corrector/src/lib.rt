@@ -8,7 +8,7 @@ ghost use Rattle.outer_theory.specs.Correction.{Corrected, Refused};
 ghost use Rattle.outer_theory.specs.Sums.{count};
 ghost use Rattle.outer_theory.specs.Syndromes.{syndrome};
 ghost use Rattle.std.specs.Options.{Cases as BySome};
-ghost use Rattle.words.specs.Words.{word};
+ghost use Rattle.words.specs.Words.{part, word};
 ghost use lib.ListN.{getD, length};
 ghost use mathlib.Core.Bool.{false, true};
 ghost use mathlib.Core.Path.{_≡_};
@@ -119,4 +119,18 @@ pub fn correct(block: &mut [u8], size: usize, limit: usize, most: usize) -> Opti
         return Some(0);
     }
     repair(block, &given, size, limit, most)
+}
+
+// `correct` on the block that stands in a row of bytes from `at` on. The other bytes stay as they are.
+pub fn correct_at(bytes: &mut [u8], at: usize, size: usize, limit: usize, most: usize) -> Option<usize>
+    requires few { ⌜ limit ≤ 8 ⌝ }
+    requires short { ⌜ size ≤ 239 ⌝ }
+    requires there { ⌜ at + (2 * limit + size) ≤ length (now bytes) ⌝ }
+    requires within { ⌜ most ≤ limit ⌝ }
+    ensures answer { λ r. ⌜ BySome r (Refused size limit most (part (2 * limit + size) at (word (now (bytes .entry)))) (part (2 * limit + size) at (word (now (bytes .exit)))))
+        (λ wrong. Corrected size limit most (part (2 * limit + size) at (word (now (bytes .entry)))) (part (2 * limit + size) at (word (now (bytes .exit)))) wrong) ⌝ }
+    ensures before { λ _. ⌜ ((k : ℕ) → k < at → getD (now (bytes .exit)) k 0 ≡ getD (now (bytes .entry)) k 0) ⌝ }
+    ensures behind { λ _. ⌜ ((k : ℕ) → at + (2 * limit + size) ≤ k → getD (now (bytes .exit)) k 0 ≡ getD (now (bytes .entry)) k 0) ⌝ }
+{
+    correct(&mut bytes[at..at + (2 * limit + size)], size, limit, most)
 }

@@ -1,14 +1,11 @@
 ghost use Prim.Native.Nat.{ℕ, suc, _+_, _-_, _*_, _<_, _≤_};
-ghost use Rattle.field.specs.Field.{_⊕_, _⊗_, gexp, gpow};
-ghost use Rattle.outer_theory.specs.Rows.{Reduced, Shape, Swept, applied, at};
+ghost use Rattle.field.specs.Field.{_⊕_, _⊗_};
+ghost use Rattle.outer_theory.proofs.Rows.{Reduced, Shape, Swept, applied, at};
 ghost use Rattle.outer_theory.specs.Sums.{count, sum};
-ghost use Rattle.outer_theory.specs.Syndromes.{X};
 ghost use lib.ListN.{getD};
 ghost use mathlib.Core.Path.{_≡_};
-use crate::syndromes::add_powers;
 use crate::syndromes::place;
 use field::inverse;
-use field::log;
 use field::mul;
 
 // Nine rows of nine coefficients: row r has 1 at place r, and 0 elsewhere.
@@ -24,9 +21,8 @@ const UNIT_ROWS: [u8; 81] = [
     0, 0, 0, 0, 0, 0, 0, 0, 1,
 ];
 
-fn unit_rows(limit: usize) -> [u8; 81]
-    requires { ⌜ limit ≤ 8 ⌝ }
-    ensures { λ r. ⌜ Shape limit r ⌝ }
+fn unit_rows() -> [u8; 81]
+    ensures { λ r. ⌜ ((limit : ℕ) → limit ≤ 8 → Shape limit r) ⌝ }
 {
     UNIT_ROWS
 }
@@ -140,7 +136,7 @@ pub(crate) fn locator(syndromes: &[u8; 16], limit: usize) -> [u8; 9]
     ensures one { λ a. ⌜ ((l : ℕ) × (l ≤ limit) × (getD a l 0 ≡ 1)) ⌝ }
     ensures vanish { λ a. ⌜ ((j : ℕ) → j < limit → sum (suc limit) (λ l. getD a l 0 ⊗ getD (now (syndromes .entry)) (j + l) 0) ≡ 0) ⌝ }
 {
-    let mut rows = unit_rows(limit);
+    let mut rows = unit_rows();
     let mut left = [1; 9];
     for j in 0..limit {
         eliminate(&mut rows, &mut left, syndromes, j, limit);

@@ -14,14 +14,14 @@ use Rattle.field.proofs.Field.{add-assoc, add-self, zero-add, add-lt}
 use Rattle.field.proofs.Powers.{zero-if-same}
 use Rattle.words.specs.Words.{word}
 use Rattle.outer_code.specs.Outer.{AreBytes, Outer}
-use Rattle.outer_theory.specs.Sums.{sum, count, one-if, zeros}
+use Rattle.outer_theory.specs.Sums.{sum, count, one-if}
 use Rattle.outer_theory.specs.Syndromes.{syndrome, differing, X, V}
 use Rattle.outer_theory.specs.Correction.{Corrected}
-use Rattle.outer_theory.specs.Errors.{Errors}
-use Rattle.outer_theory.proofs.Sums.{sum-same, count-none}
+use Rattle.outer_theory.proofs.Errors.{Errors}
+use Rattle.outer_theory.proofs.Sums.{zeros, sum-same, count-none}
 use Rattle.outer_theory.proofs.Poly.{ev, ev-sum, Zero, AllBytes, few-roots, zeros-le}
 use Rattle.outer_theory.proofs.Locate.{moment, moment-add, moment-same, poly, located, sums-of-error}
-use Rattle.outer_theory.proofs.Iff.{syndrome-is, X-lt, X-apart, V-lt, V-nonzero, outer-length, outer-bytes, outer-syndromes, syndromes-outer, only-one}
+use Rattle.outer_theory.proofs.Iff.{syndrome-is, X-lt, X-apart, V-lt, V-nonzero, outer-bytes, outer-syndromes, syndromes-outer, only-one}
 
 back : (a r : ℕ) → a ⊕ (a ⊕ r) ≡ r
 back a r = sym (add-assoc a a r) ∙ ap (λ (y : ℕ). y ⊕ r) (add-self a) ∙ zero-add r
@@ -64,7 +64,7 @@ module _ (limit n : ℕ) (x : ℕ → ℕ) (a marks : List ℕ) (hl : limit ≤ 
   few-marks : zeros n (λ k. getD marks k 0) ≤ limit
   few-marks =
       le-trans (zeros-le n (λ k. getD marks k 0) (λ k. ev cs (x k)) (λ k l z. same k ∙ sym (hm k l) ∙ z))
-        (few-of n limit x cs hx apart lc (all-bytes cs (take-bytes (suc limit) a ba)) nz)
+      (few-of n limit x cs hx apart lc (all-bytes cs (take-bytes (suc limit) a ba)) nz)
     where
       cs : List ℕ
       cs = take (suc limit) a
@@ -86,8 +86,12 @@ module _ (size limit most : ℕ) (hl : limit ≤ 8) (hs : size ≤ 239) (hm : mo
   -- ---- the block is an outer word
   pub clean : ((j : ℕ) → j < 2 * limit → syndrome (2 * limit) (length old) (word old) j ≡ 0) → Corrected size limit most old old 0
   clean s =
-      record { outer = outer; counted = self; few = omega arith
-             ; only = λ w o h. only-one size limit hl hs old w old lo o outer (omega arith) (omega (arith, self)) }
+      record {
+        outer = outer;
+        counted = self;
+        few = omega arith;
+        only = λ w o h. only-one size limit hl hs old w old lo o outer (omega arith) (omega (arith, self));
+      }
     where
       outer : Outer size limit old
       outer = syndromes-outer size limit hl hs old lo bo (λ j h. subst (λ (n : ℕ). syndrome (2 * limit) n (word old) j ≡ 0) lo (s j h))
@@ -100,8 +104,12 @@ module _ (size limit most : ℕ) (hl : limit ≤ 8) (hs : size ≤ 239) (hm : mo
       → ((j : ℕ) → j < 2 * limit → syndrome (2 * limit) (length old) (word old) j ≡ syndrome (2 * limit) (length old) (word e) j)
       → ((q : ℕ) → q < length old → getD new q 0 ≡ getD old q 0 ⊕ getD e q 0) → wrong ≡ count (length old) (word e) → wrong ≤ most → Corrected size limit most old new wrong
   accepted new e wrong ln bn s h c few =
-      record { outer = outer; counted = counted; few = few
-             ; only = λ w o near. only-one size limit hl hs old w new lo o outer (omega arith) (omega (arith, counted)) }
+      record {
+        outer = outer;
+        counted = counted;
+        few = few;
+        only = λ w o near. only-one size limit hl hs old w new lo o outer (omega arith) (omega (arith, counted));
+      }
     where
       vanishes : (j : ℕ) → j < 2 * limit → syndrome (2 * limit) (length old) (word new) j ≡ 0
       vanishes j l =
@@ -139,11 +147,11 @@ module _ (size limit most : ℕ) (hl : limit ≤ 8) (hs : size ≤ 239) (hm : mo
     root : (w : List ℕ) → Outer size limit w → differing old w ≤ limit → (q : ℕ) → q < length old → (err w q ≡ 0 → ⊥) → poly (suc limit) (λ l. getD a l 0) (X (2 * limit) (length old) q) ≡ 0
     root w o near q l e =
         located (length old) (X (2 * limit) (length old)) (V (2 * limit) (length old)) fx fa
-          (V-lt (2 * limit) (length old) (omega arith) (omega arith) (omega arith)) (V-nonzero (2 * limit) (length old) (omega arith) (omega arith) (omega arith)) limit
-          (word old) (word w) (λ l. getD a l 0) (λ k m. bo k) (λ k m. outer-bytes size limit hl hs w o k) (λ j h. vanishes w o j (omega arith)) near
-          (λ j h. sum-same (suc limit) (λ l. getD a l 0 ⊗ moment (length old) (X (2 * limit) (length old)) (V (2 * limit) (length old)) (word old) (j + l)) (λ l. getD a l 0 ⊗ getD s (j + l) 0)
-              (λ l m. ap (λ (y : ℕ). getD a l 0 ⊗ y) (sym (summed (j + l) (omega arith)))) ∙ vanish j h)
-          q l e
+        (V-lt (2 * limit) (length old) (omega arith) (omega arith) (omega arith)) (V-nonzero (2 * limit) (length old) (omega arith) (omega arith) (omega arith)) limit
+        (word old) (word w) (λ l. getD a l 0) (λ k m. bo k) (λ k m. outer-bytes size limit hl hs w o k) (λ j h. vanishes w o j (omega arith)) near
+        (λ j h. sum-same (suc limit) (λ l. getD a l 0 ⊗ moment (length old) (X (2 * limit) (length old)) (V (2 * limit) (length old)) (word old) (j + l)) (λ l. getD a l 0 ⊗ getD s (j + l) 0)
+        (λ l m. ap (λ (y : ℕ). getD a l 0 ⊗ y) (sym (summed (j + l) (omega arith)))) ∙ vanish j h)
+        q l e
 
     marked : (q : ℕ) → q < length old → poly (suc limit) (λ l. getD a l 0) (X (2 * limit) (length old) q) ≡ 0 → getD marks q 0 ≡ 0
     unfolding poly
@@ -155,10 +163,12 @@ module _ (size limit most : ℕ) (hl : limit ≤ 8) (hs : size ≤ 239) (hm : mo
 
     pub errors : (w : List ℕ) → Outer size limit w → differing old w ≤ limit → Errors limit (length old) s marks (λ q. word old q ⊕ word w q)
     errors w o near =
-        record { explained = λ j h. summed j h ∙ sums-of-error (length old) (X (2 * limit) (length old)) (V (2 * limit) (length old)) (word old) (word w) j (vanishes w o j h) ∙ as-syndrome w j
-               ; outside = λ q l nz. outside q l nz (ℕ-discrete (err w q) 0)
-               ; bytes = λ q l. add-lt (word old q) (word w q) (bo q) (outer-bytes size limit hl hs w o q)
-               ; few = few-marks limit (length old) (X (2 * limit) (length old)) a marks hl fx fa la ba one hmarks }
+        record {
+          explained = λ j h. summed j h ∙ sums-of-error (length old) (X (2 * limit) (length old)) (V (2 * limit) (length old)) (word old) (word w) j (vanishes w o j h) ∙ as-syndrome w j;
+          outside = λ q l nz. outside q l nz (ℕ-discrete (err w q) 0);
+          bytes = λ q l. add-lt (word old q) (word w q) (bo q) (outer-bytes size limit hl hs w o q);
+          few = few-marks limit (length old) (X (2 * limit) (length old)) a marks hl fx fa la ba one hmarks;
+        }
       where
         outside : (q : ℕ) → q < length old → (getD marks q 0 ≡ 0 → ⊥) → Dec (err w q ≡ 0) → err w q ≡ 0
         outside q l nz (yes e) = e

@@ -1,3 +1,5 @@
+pub mod Rows
+pub mod Errors
 pub mod Sums
 pub mod Vander
 pub mod Poly

@@ -1,17 +1,16 @@
 -- A polynomial that is not 0 has no more roots than its degree.
 -- Assumes nothing.
-use mathlib.Core.Path.{_≡_, refl, sym, _∙_, ap, ap₂, subst}
-use mathlib.Core.Logic.{_⊎_, inl, inr}
+use mathlib.Core.Path.{_≡_, refl, sym, _∙_, ap, ap₂}
 use mathlib.Core.List.{List, [], _∷_}
 use Prim.Native.Nat.{ℕ, zero, suc, _+_, _-_, _*_, _<_, _≤_}
 use native.Mathlib.Omega.{arith}
-use native.Mathlib.Nat.{not-suc-le-zero, le-refl, le-step}
+use native.Mathlib.Nat.{le-refl, le-step}
 use lib.ListN.{length, getD}
 use Rattle.field.specs.Field.{_⊕_, _⊗_, gpow}
-use Rattle.field.proofs.Field.{add-assoc, add-comm, add-left-comm, add-self, add-zero, zero-add, add-lt, add-swap, mul-assoc, mul-comm, mul-left-comm, mul-add, add-mul, mul-lt, zero-mul, mul-zero, mul-one, no-divisors}
-use Rattle.outer_theory.specs.Sums.{sum, zeros, one-if-zero}
-use Rattle.field.proofs.Powers.{same-if-zero, zero-if-same, pow-zero, pow-suc}
-use Rattle.outer_theory.proofs.Sums.{sum-mul, sum-same, sum-front}
+use Rattle.field.proofs.Field.{add-comm, add-self, add-zero, zero-add, add-lt, add-swap, mul-left-comm, mul-add, add-mul, mul-lt, mul-zero, mul-one, no-divisors}
+use Rattle.outer_theory.specs.Sums.{sum}
+use Rattle.field.proofs.Powers.{same-if-zero, pow-zero, pow-suc}
+use Rattle.outer_theory.proofs.Sums.{zeros, one-if-zero, sum-mul, sum-same, sum-front}
 
 -- the value of a polynomial whose lowest coefficient stands first
 unfoldable pub ev : List ℕ → ℕ → ℕ
@@ -40,10 +39,10 @@ quo-is a y (b ∷ bs) = by (ev bs y) (ev bs a) (ev (quo a bs) y) (quo-is a y bs)
         let m : ℕ = b ⊕ (a ⊗ w) in
         let p : ℕ = b ⊕ (y ⊗ u) in
         let r : (y ⊕ a) ⊗ (y ⊗ q) ≡ (y ⊗ p) ⊕ (y ⊗ m) =
-              mul-left-comm (y ⊕ a) y q ∙ ap (λ (z : ℕ). y ⊗ z) (sym e ∙ sym (cancel (y ⊗ u) (a ⊗ w) b)) ∙ mul-add y p m in
+        mul-left-comm (y ⊕ a) y q ∙ ap (λ (z : ℕ). y ⊗ z) (sym e ∙ sym (cancel (y ⊗ u) (a ⊗ w) b)) ∙ mul-add y p m in
         sym (mul-add (y ⊕ a) m (y ⊗ q) ∙ ap₂ _⊕_ (add-mul y a m) r ∙ add-swap (y ⊗ m) (a ⊗ m) (y ⊗ p) (y ⊗ m)
-          ∙ ap (λ (z : ℕ). z ⊕ ((a ⊗ m) ⊕ (y ⊗ m))) (add-comm (y ⊗ m) (y ⊗ p))
-          ∙ add-swap (y ⊗ p) (y ⊗ m) (a ⊗ m) (y ⊗ m) ∙ ap (λ (z : ℕ). ((y ⊗ p) ⊕ (a ⊗ m)) ⊕ z) (add-self (y ⊗ m)) ∙ add-zero ((y ⊗ p) ⊕ (a ⊗ m)))
+        ∙ ap (λ (z : ℕ). z ⊕ ((a ⊗ m) ⊕ (y ⊗ m))) (add-comm (y ⊗ m) (y ⊗ p))
+        ∙ add-swap (y ⊗ p) (y ⊗ m) (a ⊗ m) (y ⊗ m) ∙ ap (λ (z : ℕ). ((y ⊗ p) ⊕ (a ⊗ m)) ⊕ z) (add-self (y ⊗ m)) ∙ add-zero ((y ⊗ p) ⊕ (a ⊗ m)))
 
 -- a polynomial with the root a is y + a times its quotient
 root-is : (a y c : ℕ) (cs : List ℕ) → ev (c ∷ cs) a ≡ 0 → ev (c ∷ cs) y ≡ (y ⊕ a) ⊗ ev (quo a cs) y
@@ -78,7 +77,7 @@ abbrev pub AllBytes : List ℕ → Type 0
 AllBytes [] = Unit {0}
 AllBytes (c ∷ cs) = (c < 256) × AllBytes cs
 
-pub ev-lt : (cs : List ℕ) (y : ℕ) → AllBytes cs → ev cs y < 256
+ev-lt : (cs : List ℕ) (y : ℕ) → AllBytes cs → ev cs y < 256
 unfolding ev
 ev-lt [] y h = omega arith
 ev-lt (c ∷ cs) y h = add-lt c (y ⊗ ev cs y) (h .0) (mul-lt y (ev cs y))
@@ -105,10 +104,10 @@ few-suc n x hx apart ih c cs hc nz = by (ev (c ∷ cs) (x n)) cs hc refl nz
         let h = ih (ev (b ∷ bs) (x n)) (quo (x n) bs) (quo-bytes (x n) (b ∷ bs) (hc .1)) (λ z. nz (quo-zero (x n) c (b ∷ bs) e z)) in
         let l = length-quo (x n) bs in
         let s = zeros-le n (λ k. ev (c ∷ b ∷ bs) (x k)) (λ k. ev (quo (x n) (b ∷ bs)) (x k))
-              (λ k m z. no-divisors (x k ⊕ x n) (ev (quo (x n) (b ∷ bs)) (x k)) (add-lt (x k) (x n) (hx k (le-step m)) (hx n (le-refl (suc n))))
-                (ev-lt (quo (x n) (b ∷ bs)) (x k) (quo-bytes (x n) (b ∷ bs) (hc .1)))
-                (sym (root-is (x n) (x k) c (b ∷ bs) e) ∙ z)
-                (λ w. apart k n m (le-refl (suc n)) (same-if-zero (x k) (x n) w))) in
+        (λ k m z. no-divisors (x k ⊕ x n) (ev (quo (x n) (b ∷ bs)) (x k)) (add-lt (x k) (x n) (hx k (le-step m)) (hx n (le-refl (suc n))))
+        (ev-lt (quo (x n) (b ∷ bs)) (x k) (quo-bytes (x n) (b ∷ bs) (hc .1)))
+        (sym (root-is (x n) (x k) c (b ∷ bs) e) ∙ z)
+        (λ w. apart k n m (le-refl (suc n)) (same-if-zero (x k) (x n) w))) in
         omega arith
 
 pub few-roots : (n : ℕ) (x : ℕ → ℕ) → ((k : ℕ) → k < n → x k < 256) → ((i k : ℕ) → i < k → k < n → x i ≡ x k → ⊥) → Few n x
@@ -123,7 +122,7 @@ unfolding ev sum
 ev-sum [] y h = refl
 ev-sum (c ∷ cs) y h =
     ap₂ _⊕_ (sym (ap (λ (z : ℕ). c ⊗ z) (pow-zero y) ∙ mul-one c (h .0)))
-      (ap (λ (z : ℕ). y ⊗ z) (ev-sum cs y (h .1)) ∙ sym (sum-mul (length cs) y (λ l. getD cs l 0 ⊗ gpow y l))
-        ∙ sum-same (length cs) (λ l. y ⊗ (getD cs l 0 ⊗ gpow y l)) (λ l. getD cs l 0 ⊗ gpow y (suc l))
-            (λ l m. mul-left-comm y (getD cs l 0) (gpow y l) ∙ ap (λ (z : ℕ). getD cs l 0 ⊗ z) (sym (pow-suc y l))))
+    (ap (λ (z : ℕ). y ⊗ z) (ev-sum cs y (h .1)) ∙ sym (sum-mul (length cs) y (λ l. getD cs l 0 ⊗ gpow y l))
+    ∙ sum-same (length cs) (λ l. y ⊗ (getD cs l 0 ⊗ gpow y l)) (λ l. getD cs l 0 ⊗ gpow y (suc l))
+    (λ l m. mul-left-comm y (getD cs l 0) (gpow y l) ∙ ap (λ (z : ℕ). getD cs l 0 ⊗ z) (sym (pow-suc y l))))
     ∙ sym (sum-front (length cs) (λ l. getD (c ∷ cs) l 0 ⊗ gpow y l))

@@ -1,15 +1,13 @@
 -- The weights from one row of products: (02^1 + 1)(02^2 + 1) .. (02^n + 1) for each n, by their logarithms.
 -- Assumes nothing.
-use mathlib.Core.Path.{_≡_, refl, sym, _∙_, ap, ap₂, subst}
-use mathlib.Core.Bool.{Bool}
+use mathlib.Core.Path.{_≡_, refl, sym, _∙_, ap, ap₂}
 use mathlib.Core.List.{List, [], _∷_}
 use Prim.Native.Nat.{ℕ, zero, suc, _+_, _-_, _*_, _/_, _%_, _<_, _≤_}
 use native.Mathlib.Omega.{arith}
 use native.Mathlib.Nat as N
-use lib.Dec.{T, eqb, eqb→eq}
 use lib.ListN.{getD}
 use Rattle.field.specs.Field.{_⊕_, _⊗_, gexp}
-use Rattle.field.proofs.Field.{add-lt, mul-assoc, mul-comm, mul-left-comm, mul-add, mul-one, mul-lt, exp-lt, exp-mul, exp-255, exp-255-more, exp-apart, exp-of-log, log-lt}
+use Rattle.field.proofs.Field.{add-lt, mul-assoc, mul-comm, mul-left-comm, mul-add, mul-one, mul-lt, exp-lt, exp-mul, exp-255, exp-255-more, exp-apart, exp-of-log}
 use Rattle.field.proofs.Tables.{logarithm}
 use Rattle.field.proofs.Powers.{same-if-zero, exp-zero}
 use Rattle.outer_theory.specs.Syndromes.{weight}
@@ -60,7 +58,7 @@ logs-from (suc n) i a h b e zero l = (e ∙ ap product (let q : i ≡ i + 0 = om
 logs-from (suc zero) i a h b e (suc k) l = absurd (omega arith)
 logs-from (suc (suc n)) i a h b e (suc k) l =
     let r = logs-from (suc n) (suc i) ((a + logarithm (gexp (suc i) ⊕ 1)) % 255) (omega arith) (omega arith)
-              (exp-mod (a + logarithm (gexp (suc i) ⊕ 1)) ∙ sym (exp-mul a (logarithm (gexp (suc i) ⊕ 1))) ∙ ap₂ _⊗_ e (factor-log i (omega arith))) k (omega arith) in
+    (exp-mod (a + logarithm (gexp (suc i) ⊕ 1)) ∙ sym (exp-mul a (logarithm (gexp (suc i) ⊕ 1))) ∙ ap₂ _⊗_ e (factor-log i (omega arith))) k (omega arith) in
     (r .0 ∙ ap product (let q : suc i + k ≡ i + suc k = omega arith in q), r .1)
 
 pub product-log : (k : ℕ) → k < 255 → gexp (getD (product-logs 255 0 0) k 0) ≡ product k

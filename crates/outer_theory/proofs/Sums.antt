@@ -1,17 +1,25 @@
 -- Laws of sums and of counts.
 -- Assumes nothing.
-use mathlib.Core.Path.{_≡_, refl, sym, _∙_, ap, ap₂, subst}
-use mathlib.Core.Logic.{_⊎_, inl, inr}
-use Prim.Native.Nat.{ℕ, zero, suc, _+_, _-_, _*_, _<_, _≤_}
+use mathlib.Core.Path.{_≡_, refl, sym, _∙_, ap, ap₂}
+use Prim.Native.Nat.{ℕ, zero, suc, _+_, _-_, _<_, _≤_}
 use native.Mathlib.Omega.{arith}
-use native.Mathlib.Nat.{not-suc-le-zero, add-suc, suc-add, le-refl, le-step, le-trans}
+use native.Mathlib.Nat.{suc-add, le-refl, le-step, le-trans}
 use native.Mathlib.Decide.{decLe}
 use native.Mathlib.Nat as N
 use native.Mathlib.Numerals.{add-one}
-use Rattle.field.specs.Field.{_⊕_, _⊗_, gexp, gpow, xtimes, xtime}
-use Rattle.field.proofs.Field.{add-assoc, add-comm, add-left-comm, add-self, add-zero, zero-add, add-lt, add-swap, mul-assoc, mul-comm, mul-left-comm, mul-add, add-mul, mul-lt, zero-mul, mul-zero, one-mul, mul-one, exp-lt, exp-mul, no-divisors}
+use Rattle.field.specs.Field.{_⊕_, _⊗_}
+use Rattle.field.proofs.Field.{add-assoc, add-comm, add-zero, zero-add, add-lt, add-swap, mul-add, mul-zero}
 use Rattle.field.proofs.Powers.{same-if-zero, zero-if-same}
-use Rattle.outer_theory.specs.Sums.{sum, count, one-if, zeros, one-if-zero}
+use Rattle.outer_theory.specs.Sums.{sum, count, one-if}
+
+-- how many of f 0, .., f (n - 1) are 0
+abbrev pub one-if-zero : ℕ → ℕ
+one-if-zero zero = 1
+one-if-zero (suc a) = 0
+
+unfoldable pub zeros : ℕ → (ℕ → ℕ) → ℕ
+zeros zero f = 0
+zeros (suc n) f = zeros n f + one-if-zero (f n)
 
 -- ---- sums
 pub sum-suc : (n : ℕ) (f : ℕ → ℕ) → sum (suc n) f ≡ sum n f ⊕ f n
@@ -88,10 +96,11 @@ sum-reverse (suc n) f =
   where
     first : (n : ℕ) → suc n - 1 - 0 ≡ n
     first n = omega arith
+
     next : (n k : ℕ) → suc n - 1 - suc k ≡ n - 1 - k
     next n k = omega arith
 
-pub count-le-all : (n : ℕ) (f : ℕ → ℕ) → count n f ≤ n
+count-le-all : (n : ℕ) (f : ℕ → ℕ) → count n f ≤ n
 unfolding count
 count-le-all zero f = omega arith
 count-le-all (suc n) f = omega (arith, count-le-all n f, at (f n))
@@ -104,9 +113,10 @@ pub count-low : (n t : ℕ) (f : ℕ → ℕ) → ((k : ℕ) → t ≤ k → k <
 unfolding count
 count-low zero t f h = omega arith
 count-low (suc n) t f h =
-    elim (decLe t n)
-      [ yes g ↦ (let q : one-if (f n) ≡ 0 = ap one-if (h n g (le-refl (suc n))) in omega (arith, count-low n t f (λ k a l. h k a (le-step l))))
-      | no g ↦ le-trans (count-le-all (suc n) f) (omega arith) ]
+    elim (decLe t n) [
+      | yes g ↦ (let q : one-if (f n) ≡ 0 = ap one-if (h n g (le-refl (suc n))) in omega (arith, count-low n t f (λ k a l. h k a (le-step l))))
+      | no g ↦ le-trans (count-le-all (suc n) f) (omega arith)
+    ]
 
 pub count-triangle : (n : ℕ) (f g r : ℕ → ℕ) → count n (λ k. f k ⊕ g k) ≤ count n (λ k. r k ⊕ f k) + count n (λ k. r k ⊕ g k)
 unfolding count
@@ -141,22 +151,6 @@ count-none zero f h = refl
 count-none (suc n) f h =
     let q : one-if (f n) ≡ 0 = ap one-if (h n (le-refl (suc n))) in
     let p = count-none n f (λ k l. h k (le-step l)) in omega arith
-
-pub zeros-yes : (n c : ℕ) (f : ℕ → ℕ) → c ≡ zeros n f → f n ≡ 0 → c + 1 ≡ zeros (n + 1) f
-unfolding zeros
-zeros-yes n c f e z = let q : one-if-zero (f n) ≡ 1 = ap one-if-zero z in ap₂ _+_ e (sym q) ∙ ap (λ (m : ℕ). zeros m f) (sym (add-one n))
-
-pub zeros-no : (n c : ℕ) (f : ℕ → ℕ) → c ≡ zeros n f → (f n ≡ 0 → ⊥) → c ≡ zeros (n + 1) f
-unfolding zeros
-zeros-no n c f e z = sym (N.add-zero c) ∙ ap₂ _+_ e (sym (none (f n) z)) ∙ ap (λ (m : ℕ). zeros m f) (sym (add-one n))
-  where
-    none : (a : ℕ) → (a ≡ 0 → ⊥) → one-if-zero a ≡ 0
-    none zero h = absurd (h refl)
-    none (suc a) h = refl
-
-pub zeros-start : (f : ℕ → ℕ) → 0 ≡ zeros 0 f
-unfolding zeros
-zeros-start f = refl
 
 pub count-yes : (n c : ℕ) (f : ℕ → ℕ) → c ≡ count n f → (f n ≡ 0 → ⊥) → c + 1 ≡ count (n + 1) f
 unfolding count

@@ -1,12 +1,12 @@
 -- As many power sums as there are numbers that are not 0 cannot all vanish.
 -- Assumes nothing.
-use mathlib.Core.Path.{_≡_, refl, sym, _∙_, ap, ap₂, subst}
-use mathlib.Core.Logic.{_⊎_, inl, inr}
+use mathlib.Core.Path.{_≡_, refl, sym, _∙_, ap, subst}
+use mathlib.Core.Logic.{inl, inr}
 use Prim.Native.Nat.{ℕ, zero, suc, _+_, _-_, _*_, _<_, _≤_}
 use native.Mathlib.Omega.{arith}
-use native.Mathlib.Nat.{not-suc-le-zero, add-suc, suc-add, le-refl, le-step, eq-or-lt-of-le, le-of-suc-le-suc}
-use Rattle.field.specs.Field.{_⊕_, _⊗_, gexp, gpow}
-use Rattle.field.proofs.Field.{add-assoc, add-comm, add-left-comm, add-self, add-zero, zero-add, add-lt, add-swap, mul-assoc, mul-comm, mul-left-comm, mul-add, add-mul, mul-lt, zero-mul, mul-zero, one-mul, mul-one, exp-lt, exp-mul, no-divisors}
+use native.Mathlib.Nat.{not-suc-le-zero, le-refl, le-step, eq-or-lt-of-le, le-of-suc-le-suc}
+use Rattle.field.specs.Field.{_⊕_, _⊗_, gpow}
+use Rattle.field.proofs.Field.{add-zero, add-lt, mul-assoc, mul-comm, mul-left-comm, mul-add, add-mul, mul-lt, zero-mul, mul-one, no-divisors}
 use Rattle.outer_theory.specs.Sums.{sum, count, one-if}
 use Rattle.field.proofs.Powers.{same-if-zero, zero-if-same, pow-suc, pow-zero}
 use Rattle.outer_theory.proofs.Sums.{sum-suc, sum-same, sum-none, sum-add, sum-mul, count-le, count-suc}
@@ -28,7 +28,7 @@ Vander n =
     → ((j : ℕ) → j < m → sum n (λ k. f k ⊗ gpow (x k) j) ≡ 0) → count n f ≤ m → (k : ℕ) → k < n → f k ≡ 0
 
 -- what holds below n and at n holds below n + 1
-pub below-suc : (P : ℕ → Type 0) (n : ℕ) → ((k : ℕ) → k < n → P k) → P n → (k : ℕ) → k < suc n → P k
+below-suc : (P : ℕ → Type 0) (n : ℕ) → ((k : ℕ) → k < n → P k) → P n → (k : ℕ) → k < suc n → P k
 below-suc P n h p k l =
     elim (eq-or-lt-of-le (le-of-suc-le-suc l)) [ inl e ↦ subst P (sym e) p | inr b ↦ h k b ]
 
@@ -41,16 +41,16 @@ module _ (n : ℕ) (ih : Vander n) (f x : ℕ → ℕ) (hf : (k : ℕ) → k < s
   unfolding Sums
   last-zero e m s c =
       ih m f x (λ k l. hf k (le-step l)) (λ k l. hx k (le-step l)) (λ i k h l. apart i k h (le-step l))
-        (λ j l. sym (add-zero (sum n (λ k. f k ⊗ gpow (x k) j))) ∙ ap (λ (y : ℕ). sum n (λ k. f k ⊗ gpow (x k) j) ⊕ y) (sym (ap (λ (y : ℕ). y ⊗ gpow (x n) j) e ∙ zero-mul (gpow (x n) j)))
-          ∙ sym (sum-suc n (λ k. f k ⊗ gpow (x k) j)) ∙ s j l)
-        (omega (arith, count-suc n f))
+      (λ j l. sym (add-zero (sum n (λ k. f k ⊗ gpow (x k) j))) ∙ ap (λ (y : ℕ). sum n (λ k. f k ⊗ gpow (x k) j) ⊕ y) (sym (ap (λ (y : ℕ). y ⊗ gpow (x n) j) e ∙ zero-mul (gpow (x n) j)))
+      ∙ sym (sum-suc n (λ k. f k ⊗ gpow (x k) j)) ∙ s j l)
+      (omega (arith, count-suc n f))
 
   last-not : (a : ℕ) → f n ≡ suc a → (m : ℕ) → Sums (suc m) → count (suc n) f ≤ suc m → (k : ℕ) → k < n → f k ≡ 0
   unfolding Sums
   last-not a e m s c k l =
       no-divisors (x k ⊕ x n) (f k) (add-lt (x k) (x n) (hx k (le-step l)) (hx n (le-refl (suc n)))) (hf k (le-step l))
-        (mul-comm (x k ⊕ x n) (f k) ∙ rest k l)
-        (λ z. apart k n l (le-refl (suc n)) (same-if-zero (x k) (x n) z))
+      (mul-comm (x k ⊕ x n) (f k) ∙ rest k l)
+      (λ z. apart k n l (le-refl (suc n)) (same-if-zero (x k) (x n) z))
     where
       part : (j : ℕ) → j < suc m → sum n (λ k. f k ⊗ gpow (x k) j) ≡ f n ⊗ gpow (x n) j
       part j h = same-if-zero (sum n (λ k. f k ⊗ gpow (x k) j)) (f n ⊗ gpow (x n) j) (sym (sum-suc n (λ k. f k ⊗ gpow (x k) j)) ∙ s j h)
@@ -59,8 +59,8 @@ module _ (n : ℕ) (ih : Vander n) (f x : ℕ → ℕ) (hf : (k : ℕ) → k < s
       gone j h =
           step n (x n) j f x
           ∙ zero-if-same (sum n (λ k. f k ⊗ gpow (x k) (suc j))) (x n ⊗ sum n (λ k. f k ⊗ gpow (x k) j))
-              (part (suc j) (omega arith) ∙ ap (λ (y : ℕ). f n ⊗ y) (pow-suc (x n) j) ∙ mul-left-comm (f n) (x n) (gpow (x n) j)
-                ∙ sym (ap (λ (y : ℕ). x n ⊗ y) (part j (omega arith))))
+          (part (suc j) (omega arith) ∙ ap (λ (y : ℕ). f n ⊗ y) (pow-suc (x n) j) ∙ mul-left-comm (f n) (x n) (gpow (x n) j)
+          ∙ sym (ap (λ (y : ℕ). x n ⊗ y) (part j (omega arith))))
 
       fewer : count n (λ k. f k ⊗ (x k ⊕ x n)) ≤ m
       fewer =

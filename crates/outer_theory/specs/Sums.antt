@@ -1,4 +1,4 @@
--- Sums in the field of 256 elements, and how many of some numbers are not 0.
+-- Sums in the field of 256 elements, and how many of some bytes are not 0.
 -- Assumes nothing.
 use Prim.Native.Nat.{ℕ, zero, suc, _+_}
 use Rattle.field.specs.Field.{_⊕_}
@@ -8,6 +8,7 @@ unfoldable pub sum : ℕ → (ℕ → ℕ) → ℕ
 sum zero f = 0
 sum (suc n) f = sum n f ⊕ f n
 
+-- 1 for any number but 0
 abbrev pub one-if : ℕ → ℕ
 one-if zero = 0
 one-if (suc a) = 1
@@ -16,13 +17,3 @@ one-if (suc a) = 1
 unfoldable pub count : ℕ → (ℕ → ℕ) → ℕ
 count zero f = 0
 count (suc n) f = count n f + one-if (f n)
-
--- how many of f 0, .., f (n - 1) are 0
-abbrev pub one-if-zero : ℕ → ℕ
-one-if-zero zero = 1
-one-if-zero (suc a) = 0
-
-unfoldable pub zeros : ℕ → (ℕ → ℕ) → ℕ
-zeros zero f = 0
-zeros (suc n) f = zeros n f + one-if-zero (f n)
-

@@ -3,7 +3,6 @@
 use borrow.Author.Needs.{needs}
 use mathlib.Core.Path.{_≡_, refl, sym, _∙_}
 use mathlib.Core.Logic.{inl, inr}
-use native.Mathlib.Omega.{arith}
 use lib.ListN.{length}
 use Rattle.outer_code.specs.Outer.{AreBytes}
 use Rattle.outer_theory.proofs.Correcting.{accepted, refused}
@@ -27,12 +26,12 @@ returns-else-wrong-most c =
     let ba : AreBytes (c .locator-coefficients .result) = search needs in
     record {
       none = refused (c .args .size) (c .args .limit) (c .args .most) (c .pre .few) (c .pre .short) (c .pre .within) (c .args .block .now) (c .pre .long) b
-        (c .args .given .now) (c .locator-coefficients .result) (c .marks-of-marks .result) (c .pre .syndromes) la ba
-        (c .locator-coefficients .ensures .one) (c .locator-coefficients .ensures .vanish) (c .marks-of-marks .ensures)
-        (c .errors-of-errors .result) (c .nonzero-wrong .result) (c .errors-of-errors .ensures) (c .nonzero-wrong .ensures)
-        (elim (c .else-wrong-most .came) [
-          | else-wrong-most·by·then-wrong-most·else-explain v ↦ inr (v .explain .ensures .no (v .if-explain .left))
-          | else-wrong-most·by·else-wrong-most v ↦ inl (v .if-wrong-most .left)
-        ]);
+          (c .args .given .now) (c .locator-coefficients .result) (c .marks-of-marks .result) (c .pre .syndromes) la ba
+          (c .locator-coefficients .ensures .one) (c .locator-coefficients .ensures .vanish) (c .marks-of-marks .ensures)
+          (c .errors-of-errors .result) (c .nonzero-wrong .result) (c .errors-of-errors .ensures) (c .nonzero-wrong .ensures)
+          (elim (c .else-wrong-most .came) [
+            | else-wrong-most·by·then-wrong-most·else-explain v ↦ inr (v .explain .ensures .no (v .if-explain .left))
+            | else-wrong-most·by·else-wrong-most v ↦ inl (v .if-wrong-most .left)
+          ]);
       unchanged = refl;
     }

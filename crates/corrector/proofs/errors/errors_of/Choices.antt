@@ -1,7 +1,7 @@
 use mathlib.Core.Path.{_≡_}
 use Prim.Native.Nat.{ℕ, _<_}
 use lib.ListN.{getD, length}
-use Rattle.outer_theory.specs.Errors.{Errors}
+use Rattle.outer_theory.proofs.Errors.{Errors}
 use Rattle.corrector.proofs.errors.errors_of.Given as given
 
 abbrev pub Inv-loop-k : given.InvT-loop-k

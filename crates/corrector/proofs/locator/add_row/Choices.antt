@@ -1,8 +1,8 @@
 use mathlib.Core.Path.{_≡_}
-use Prim.Native.Nat.{ℕ, _<_, _+_, _≤_}
-use lib.ListN.{length, getD}
+use Prim.Native.Nat.{ℕ, _<_, _≤_}
+use lib.ListN.{length}
 use Rattle.field.specs.Field.{_⊗_, _⊕_}
-use Rattle.outer_theory.specs.Rows.{at}
+use Rattle.outer_theory.proofs.Rows.{at}
 use Rattle.corrector.proofs.locator.add_row.Given as given
 
 abbrev pub Inv-loop-l : given.InvT-loop-l

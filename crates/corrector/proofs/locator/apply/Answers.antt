@@ -1,10 +1,10 @@
 use mathlib.Core.Path.{_≡_, _∙_, ap}
 use native.Mathlib.Omega.{arith}
-use Prim.Native.Nat.{ℕ, suc, _<_, _+_, _*_}
-use lib.ListN.{length, getD}
+use Prim.Native.Nat.{ℕ, suc, _+_}
+use lib.ListN.{getD}
 use Rattle.field.specs.Field.{_⊗_}
 use Rattle.outer_theory.specs.Sums.{sum}
-use Rattle.outer_theory.specs.Rows.{at, applied}
+use Rattle.outer_theory.proofs.Rows.{at, applied}
 use Rattle.corrector.proofs.Steps.{sum-more, sum-nothing}
 use Rattle.corrector.proofs.locator.apply.Needs as need
 

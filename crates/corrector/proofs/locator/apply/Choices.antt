@@ -1,9 +1,9 @@
 use mathlib.Core.Path.{_≡_}
-use Prim.Native.Nat.{ℕ, _<_, _+_}
-use lib.ListN.{length, getD}
+use Prim.Native.Nat.{_+_}
+use lib.ListN.{getD}
 use Rattle.field.specs.Field.{_⊗_}
 use Rattle.outer_theory.specs.Sums.{sum}
-use Rattle.outer_theory.specs.Rows.{at}
+use Rattle.outer_theory.proofs.Rows.{at}
 use Rattle.corrector.proofs.locator.apply.Given as given
 
 abbrev pub Inv-loop-l : given.InvT-loop-l

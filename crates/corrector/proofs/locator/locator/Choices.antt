@@ -1,6 +1,4 @@
-use mathlib.Core.Path.{_≡_}
-use lib.ListN.{length}
-use Rattle.outer_theory.specs.Rows.{Reduced}
+use Rattle.outer_theory.proofs.Rows.{Reduced}
 use Rattle.corrector.proofs.locator.locator.Given as given
 
 abbrev pub Inv-loop-j : given.InvT-loop-j

@@ -1,7 +1,7 @@
 use mathlib.Core.Path.{_≡_}
 use Prim.Native.Nat.{ℕ, _<_}
 use lib.ListN.{getD, length}
-use Rattle.outer_theory.specs.Rows.{at}
+use Rattle.outer_theory.proofs.Rows.{at}
 use Rattle.corrector.proofs.locator.row_of.Given as given
 
 abbrev pub Inv-loop-l : given.InvT-loop-l

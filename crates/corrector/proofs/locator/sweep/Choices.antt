@@ -1,4 +1,4 @@
-use Rattle.outer_theory.specs.Rows.{Swept}
+use Rattle.outer_theory.proofs.Rows.{Swept}
 use Rattle.corrector.proofs.locator.sweep.Given as given
 
 abbrev pub Inv-loop-r : given.InvT-loop-r

@@ -3,4 +3,4 @@ use Rattle.corrector.proofs.locator.unit_rows.Needs as need
 
 pub returns : need.returns
 unfolding units
-returns c = units-shape (c .args .limit) (c .pre)
+returns c = units-shape

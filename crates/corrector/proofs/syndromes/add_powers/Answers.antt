@@ -1,4 +1,3 @@
-use mathlib.Core.Path.{_∙_}
 use mathlib.Core.Logic.{inl, inr}
 use native.Mathlib.Omega.{arith}
 use Rattle.corrector.proofs.Running.{running-start, running-more}

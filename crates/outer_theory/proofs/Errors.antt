@@ -5,7 +5,7 @@ use mathlib.Core.List.{List}
 use Prim.Native.Nat.{ℕ, _<_, _≤_, _*_}
 use lib.ListN.{getD}
 use Rattle.words.specs.Words.{Bytes}
-use Rattle.outer_theory.specs.Sums.{zeros}
+use Rattle.outer_theory.proofs.Sums.{zeros}
 use Rattle.outer_theory.specs.Syndromes.{syndrome}
 
 -- a block of n bytes whose syndromes are s is an outer word plus the errors e, which are 0 wherever a mark is not; at most limit are marked
