@@ -6,6 +6,7 @@ ghost use Rattle.words.specs.Words.{flags};
 ghost use denote.Ref.{now};
 ghost use mathlib.Core.Bool.{not};
 ghost use mathlib.Core.Path.{_≡_};
+use crate::costs::HALF;
 use crate::costs::WINDOWS;
 use trellis::Branch;
 use trellis::CLOSED_BRANCH;
@@ -36,7 +37,7 @@ impl ReceiveTrellis<'_> {
         requires low { ⌜ window < 128 ⌝ }
         ensures { λ r. ⌜ r ≡ costing (now (self .entry) .period) (flags (now (now (self .entry) .heard))) stage window ⌝ }
     {
-        self.costs[self.kinds[stage] as usize * WINDOWS + window]
+        self.costs[self.kinds[stage] as usize * WINDOWS + (HALF * (window % 2) + window / 2)]
     }
 
     // Bit 1 is closed in the tail.
