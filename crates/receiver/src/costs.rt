@@ -36,7 +36,8 @@ fn differs(output: bool, heard: u8) -> u16
     ensures cost { λ r. ⌜ r ≡ differing output (heard-in heard) ⌝ }
     ensures small { λ r. ⌜ r < 2 ⌝ }
 {
-    if heard == PUNCTURED || output == (heard == 1) { 0 } else { 1 }
+    let agrees = output == (heard == 1);
+    if heard == PUNCTURED || agrees { 0 } else { 1 }
 }
 
 fn cost(kind: u8, window: usize) -> u16

@@ -1,4 +1,4 @@
-ghost use Prim.Native.Nat.{ℕ, _<_, _≤_};
+ghost use Prim.Native.Nat.{_<_, _≤_};
 ghost use Rattle.inner_words.proofs.Laws.{lawful as receiving-lawful};
 ghost use Rattle.inner_words.specs.Receiving.{allowed, cost as costing, receiving};
 ghost use Rattle.receiver.specs.Kinds.{Costs, Kinds};
@@ -82,9 +82,15 @@ pub(crate) impl Trellis for ReceiveTrellis<'_> as Receiving {
     fn branch(&self, stage: usize, state: usize, bit: bool) -> Branch {
         let window = 2 * state + if bit { 1 } else { 0 };
         if self.closes(stage, bit) {
-            return Branch { to: 0, cost: CLOSED_BRANCH };
+            return Branch {
+                to: 0,
+                cost: CLOSED_BRANCH,
+            };
         }
-        Branch { to: window % 64, cost: self.cost(stage, window) as u32 }
+        Branch {
+            to: window % 64,
+            cost: self.cost(stage, window) as u32,
+        }
     }
 
     fn entry(&self, stage: usize, state: usize, second: bool) -> Entry {
@@ -94,7 +100,11 @@ pub(crate) impl Trellis for ReceiveTrellis<'_> as Receiving {
         Entry {
             from: state / 2 + 32 * oldest,
             bit,
-            cost: if self.closes(stage, bit) { CLOSED_ENTRY } else { cost },
+            cost: if self.closes(stage, bit) {
+                CLOSED_ENTRY
+            } else {
+                cost
+            },
         }
     }
 }
