@@ -1,11 +1,10 @@
 -- The receive trellis keeps what every trellis keeps.
 -- Assumes nothing.
-use mathlib.Core.Path.{_≡_, refl, sym, ap, ap₂, _∙_}
+use mathlib.Core.Path.{_≡_, sym, ap, ap₂, _∙_}
 use mathlib.Core.Bool.{Bool, true, false}
 use mathlib.Core.Logic.{_⊎_, inl, inr, ⊎-elim}
 use Prim.Native.Nat.{ℕ, zero, suc, _+_, _-_, _*_, _/_, _%_, _<_, _≤_}
 use native.Mathlib.Omega.{arith}
-use lib.Dec.{eqb}
 use Rattle.std.proofs.shelf.Tests.{cases-lt}
 use Rattle.std.specs.declared.option.Option.{Option}
 use Rattle.std.specs.declared.option.Option.the-variants.{Some, None}
@@ -13,7 +12,7 @@ use Rattle.words.specs.Words.{Bits, _⊻_, digit}
 use Rattle.words.proofs.Bridge.{digit-lt, eqb-digit}
 use Rattle.paths.specs.Model.{Path, after, Lawful}
 use Rattle.paths.proofs.Paths.{some-inj, came}
-use Rattle.inner_words.specs.Receiving.{odd, x-of, y-of, sent, x-heard, y-heard, differs, cost-of, cost, allowed, receiving}
+use Rattle.inner_words.specs.Receiving.{odd, x-of, y-of, sent, x-heard, y-heard, differs, cost, allowed, receiving}
 use Rattle.inner_words.proofs.Stages.{odd-is}
 use Rattle.inner_words.proofs.Receiving.{is-open, opened}
 
@@ -49,10 +48,11 @@ module _ (p n : ℕ) (heard : Bits) where
       let hb : digit b ≡ t % 2 = ap digit (sym eb) ∙ odd-digit t in
       let hi = digit-lt i in
       let v : 2 * s + digit b ≡ t + 64 * digit i = omega arith in
-      let to : (2 * s + digit b) % 64 ≡ t = omega arith in
-      (omega arith,
-       is-open (allowed n k b) ((2 * s + digit b) % 64, cost p heard k (2 * s + digit b)) (ap (allowed n k) (sym eb) ∙ o .0)
-       ∙ ap₂ (λ (a b : ℕ). Some (a, b)) to (ap (cost p heard k) v ∙ ec))
+      let to : (2 * s + digit b) % 64 ≡ t = omega arith in (
+        omega arith,
+        is-open (allowed n k b) ((2 * s + digit b) % 64, cost p heard k (2 * s + digit b)) (ap (allowed n k) (sym eb) ∙ o .0)
+            ∙ ap₂ (λ (a b : ℕ). Some (a, b)) to (ap (cost p heard k) v ∙ ec),
+      )
 
   complete-at : (k s : ℕ) (b : Bool) (t c : ℕ) (i : Bool) → 2 * s + digit b ≡ t + 64 * digit i → t / 2 + 32 * digit i ≡ s → t % 2 ≡ digit b → allowed n k b ≡ true → cost p heard k (2 * s + digit b) ≡ c → receiving p n heard .entry k t i ≡ Some (s, b, c)
   complete-at k s b t c i v es od a ec =

@@ -6,16 +6,15 @@ use mathlib.Core.Logic.{⊎-elim}
 use Prim.Native.Nat.{ℕ, zero, suc, _+_, _-_, _*_, _/_, _%_, _^_, _<_, _≤_}
 use native.Mathlib.Omega.{arith}
 use native.Mathlib.Nat.{eq-or-lt-of-le}
-use lib.Dec.{eqb, ltb}
+use lib.Dec.{eqb}
 use Rattle.std.proofs.shelf.Tests.{cases-lt, ltb-true, lt-ltb}
-use Rattle.std.specs.declared.option.Option.{Option}
-use Rattle.std.specs.declared.option.Option.the-variants.{Some, None}
+use Rattle.std.specs.declared.option.Option.the-variants.{Some}
 use Rattle.words.specs.Words.{Bits, digit}
 use Rattle.words.proofs.Bridge.{digit-lt}
 use Rattle.inner_code.specs.Inner.{earlier, coded, Rated}
 use Rattle.paths.specs.Model.{after, paid, onward}
 use Rattle.paths.specs.Ties.{state, state-of, First, BitsFirst, lower-bit, same-states, lower-state}
-use Rattle.paths.specs.Answers.{Arrives, FirstPath, Unreachable}
+use Rattle.paths.specs.Answers.{FirstPath, Unreachable}
 use Rattle.paths.proofs.Paths.{some-inj, came}
 use Rattle.inner_words.specs.InnerWords.{Tailed, wrong, Nearest}
 use Rattle.inner_words.specs.Receiving.{register, cost, sent, allowed, open-if, receiving}
@@ -172,13 +171,13 @@ tie p n heard u v r tu tv (lower-state k l less same) =
 -- ---- the first path is the nearest word
 pub nearest : (p q : ℕ) (heard : Bits) (c : ℕ) (u : Bits) → Rated p → FirstPath (receiving p (p * q) heard) c u → Nearest p q heard u × (c ≡ wrong p q u heard)
 nearest p q heard c u r f = (
-    record {
-      tailed = tailed;
-      least = λ v t. let l = f .least v (wrong p q v heard) (record { end = register v (p * q); ends = refl; stands = arrives p q heard v r t }) in omega (arith, count);
-      first = λ v t e. tie p (p * q) heard u v r tailed t (f .first v (record { end = register v (p * q); ends = refl; stands = arrives p q heard v r t ∙ ap (λ (z : ℕ). Some (register v (p * q), z)) (e ∙ sym count) }));
-    },
-    count,
-    )
+  record {
+    tailed = tailed;
+    least = λ v t. let l = f .least v (wrong p q v heard) (record { end = register v (p * q); ends = refl; stands = arrives p q heard v r t }) in omega (arith, count);
+    first = λ v t e. tie p (p * q) heard u v r tailed t (f .first v (record { end = register v (p * q); ends = refl; stands = arrives p q heard v r t ∙ ap (λ (z : ℕ). Some (register v (p * q), z)) (e ∙ sym count) }));
+  },
+  count,
+)
   where
     tailed : Tailed (p * q) u
     tailed = only p (p * q) heard u (p * q) (f .arrives .end) c (f .arrives .stands)

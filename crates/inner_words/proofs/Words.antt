@@ -25,9 +25,9 @@ both-first u v n (lower-bit i a b c d) (lower-bit j a′ b′ c′ d′) k l =
     ⊎-elim
     (λ m. let z : _≡_ {A = ℕ} 0 1 = ap digit (sym b ∙ sym (d′ i m a) ∙ c) in absurd (omega arith))
     (λ m. ⊎-elim
-      (λ e. let z : _≡_ {A = ℕ} 0 1 = ap digit (sym b ∙ ap u e ∙ c′) in absurd (omega arith))
-      (λ e. let z : _≡_ {A = ℕ} 0 1 = ap digit (sym b′ ∙ sym (d j e a′) ∙ c′) in absurd (omega arith))
-      (eq-or-lt-of-le m))
+    (λ e. let z : _≡_ {A = ℕ} 0 1 = ap digit (sym b ∙ ap u e ∙ c′) in absurd (omega arith))
+    (λ e. let z : _≡_ {A = ℕ} 0 1 = ap digit (sym b′ ∙ sym (d j e a′) ∙ c′) in absurd (omega arith))
+    (eq-or-lt-of-le m))
     (cases-lt j i)
 
 pub nearest-unique : (p q : ℕ) (heard u v : Bits) → Nearest p q heard u → Nearest p q heard v → (k : ℕ) → k < p * q → u k ≡ v k

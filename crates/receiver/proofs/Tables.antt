@@ -19,7 +19,7 @@ use Rattle.standard.specs.declared.profile.InnerRate.the-variants.{Half, TwoThi
 use Rattle.inner_code.specs.Inner.{Rated, half, two-thirds, three-quarters, five-sixths}
 use Rattle.inner_words.specs.Receiving.{sent, x-heard, y-heard, cost-of, cost}
 use Rattle.inner_words.proofs.Stages.{sent-all, sent-le}
-use Rattle.receiver.specs.Kinds.{part, heard-in, kind, kind-at, cost-in, sends, Kinds, Costs}
+use Rattle.receiver.specs.Kinds.{part, heard-in, kind, kind-at, cost-in, window-in, sends, Kinds, Costs}
 
 pub rated : (r : InnerRate) → Rated (period r)
 rated Half = half
@@ -66,13 +66,23 @@ cost-is : (p : ℕ) (heard : Bits) (k v : ℕ) → cost-in (kind-at p heard k) v
 unfolding kind-at cost-in cost
 cost-is p heard k v = kind-cost v (x-heard (k % p) heard (sent p k)) (y-heard (k % p) heard (sent p k))
 
-pub cost-at : (p : ℕ) (heard : Bits) (kinds costs : List ℕ) (n k v : ℕ) → Kinds p heard kinds n → Costs costs 1152 → k < n → v < 128 → getD costs (getD kinds k 0 * 128 + v) 0 ≡ cost p heard k v
+-- the place of a window
+placed : (a v : ℕ) → v < 128 → ((a * 128 + (64 * (v % 2) + v / 2)) / 128 ≡ a) × (window-in (a * 128 + (64 * (v % 2) + v / 2)) ≡ v)
+placed a v l = by (v % 2) (v / 2) (omega arith) (omega arith) (omega arith)
+  where
+    by : (b h : ℕ) → b < 2 → h < 64 → 2 * h + b ≡ v → ((a * 128 + (64 * b + h)) / 128 ≡ a) × (window-in (a * 128 + (64 * b + h)) ≡ v)
+    by b h lb lh e =
+        let m : (a * 128 + (64 * b + h)) % 64 ≡ h = omega arith in
+        let d : (a * 128 + (64 * b + h)) / 64 ≡ 2 * a + b = omega arith in
+        let q : (a * 128 + (64 * b + h)) / 128 ≡ a = omega arith in
+        (q, ap₂ (λ (x y : ℕ). 2 * x + y % 2) m d ∙ (let z : 2 * h + (2 * a + b) % 2 ≡ v = omega arith in z))
+
+pub cost-at : (p : ℕ) (heard : Bits) (kinds costs : List ℕ) (n k v : ℕ) → Kinds p heard kinds n → Costs costs 1152 → k < n → v < 128 → getD costs (getD kinds k 0 * 128 + (64 * (v % 2) + v / 2)) 0 ≡ cost p heard k v
 cost-at p heard kinds costs n k v ks cs early low =
     let e = ks k early in
     let l = kind-lt p heard k in
-    let q : (getD kinds k 0 * 128 + v) / 128 ≡ kind-at p heard k = omega arith in
-    let w : (getD kinds k 0 * 128 + v) % 128 ≡ v = omega arith in
-    cs (getD kinds k 0 * 128 + v) (omega arith) ∙ ap₂ cost-in q w ∙ cost-is p heard k v
+    let q = placed (getD kinds k 0) v low in
+    cs (getD kinds k 0 * 128 + (64 * (v % 2) + v / 2)) (omega arith) ∙ ap₂ cost-in (q .0 ∙ e) (q .1) ∙ cost-is p heard k v
 
 -- ---- along the stages
 -- the kinds of k stages are filled in, and the next is stage `phase` of its period, with its coded bits from `at` on

@@ -36,9 +36,13 @@ abbrev pub sends : ℕ → ℕ
 sends zero = 2
 sends (suc i) = 1
 
+-- the window whose cost stands at place i of a kind: first those with the present bit 0, then those with 1
+abbrev pub window-in : ℕ → ℕ
+window-in i = 2 * (i % 64) + i / 64 % 2
+
 -- the first n kinds, and the first n costs, 128 windows a kind, are filled in
 abbrev pub Kinds : ℕ → Bits → List ℕ → ℕ → Type 0
 Kinds p heard kinds n = (k : ℕ) → k < n → getD kinds k 0 ≡ kind-at p heard k
 
 abbrev pub Costs : List ℕ → ℕ → Type 0
-Costs costs n = (i : ℕ) → i < n → getD costs i 0 ≡ cost-in (i / 128) (i % 128)
+Costs costs n = (i : ℕ) → i < n → getD costs i 0 ≡ cost-in (i / 128) (window-in i)

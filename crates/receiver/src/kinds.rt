@@ -5,11 +5,9 @@ ghost use Rattle.standard.specs.Profiles.{period as periodic};
 ghost use Rattle.words.specs.Words.{flags};
 ghost use lib.ListN.{length};
 ghost use mathlib.Core.Path.{_≡_};
+use crate::costs::PUNCTURED;
 use standard::profile::InnerRate;
 use words::digit;
-
-// In the place of the bit heard of an output that is not sent.
-const PUNCTURED: u8 = 2;
 
 // The kind of stage `phase` of a period: what was heard of X and of Y, from place `at` on.
 fn kind(phase: usize, heard: &[bool], at: usize) -> u8

@@ -11,9 +11,11 @@ ghost use Rattle.words.specs.Words.{flags};
 ghost use lib.ListN.{length};
 ghost use mathlib.Core.Bool.{false};
 ghost use mathlib.Core.Path.{_≡_};
+
 mod costs;
 mod kinds;
 mod receive_trellis;
+
 use crate::costs::COSTS;
 use crate::costs::fill_costs;
 use crate::kinds::fill_kinds;
@@ -48,7 +50,13 @@ pub fn nearest(
     let mut costs = [0u16; COSTS];
     fill_costs(&mut costs);
     let period = rate.period();
-    let trellis = ReceiveTrellis { period, stages: period * periods, heard, kinds: &kinds, costs: &costs };
+    let trellis = ReceiveTrellis {
+        period,
+        stages: period * periods,
+        heard,
+        kinds: &kinds,
+        costs: &costs,
+    };
     match search(&trellis, work, path) {
         Ok(found) => match found {
             Some(wrong) => Ok(wrong),

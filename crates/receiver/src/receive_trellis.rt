@@ -1,4 +1,4 @@
-ghost use Prim.Native.Nat.{ℕ, _<_, _≤_};
+ghost use Prim.Native.Nat.{_<_, _≤_};
 ghost use Rattle.inner_words.proofs.Laws.{lawful as receiving-lawful};
 ghost use Rattle.inner_words.specs.Receiving.{allowed, cost as costing, receiving};
 ghost use Rattle.receiver.specs.Kinds.{Costs, Kinds};
@@ -6,6 +6,7 @@ ghost use Rattle.words.specs.Words.{flags};
 ghost use denote.Ref.{now};
 ghost use mathlib.Core.Bool.{not};
 ghost use mathlib.Core.Path.{_≡_};
+use crate::costs::HALF;
 use crate::costs::WINDOWS;
 use trellis::Branch;
 use trellis::CLOSED_BRANCH;
@@ -36,7 +37,7 @@ impl ReceiveTrellis<'_> {
         requires low { ⌜ window < 128 ⌝ }
         ensures { λ r. ⌜ r ≡ costing (now (self .entry) .period) (flags (now (now (self .entry) .heard))) stage window ⌝ }
     {
-        self.costs[self.kinds[stage] as usize * WINDOWS + window]
+        self.costs[self.kinds[stage] as usize * WINDOWS + (HALF * (window % 2) + window / 2)]
     }
 
     // Bit 1 is closed in the tail.
@@ -81,9 +82,15 @@ pub(crate) impl Trellis for ReceiveTrellis<'_> as Receiving {
     fn branch(&self, stage: usize, state: usize, bit: bool) -> Branch {
         let window = 2 * state + if bit { 1 } else { 0 };
         if self.closes(stage, bit) {
-            return Branch { to: 0, cost: CLOSED_BRANCH };
+            return Branch {
+                to: 0,
+                cost: CLOSED_BRANCH,
+            };
         }
-        Branch { to: window % 64, cost: self.cost(stage, window) as u32 }
+        Branch {
+            to: window % 64,
+            cost: self.cost(stage, window) as u32,
+        }
     }
 
     fn entry(&self, stage: usize, state: usize, second: bool) -> Entry {
@@ -93,7 +100,11 @@ pub(crate) impl Trellis for ReceiveTrellis<'_> as Receiving {
         Entry {
             from: state / 2 + 32 * oldest,
             bit,
-            cost: if self.closes(stage, bit) { CLOSED_ENTRY } else { cost },
+            cost: if self.closes(stage, bit) {
+                CLOSED_ENTRY
+            } else {
+                cost
+            },
         }
     }
 }

@@ -10,4 +10,4 @@ returns c = record {
   tie = receiving.tie;
   nearest = receiving.nearest;
   reachable = receiving.never-unreachable;
-  }
+}

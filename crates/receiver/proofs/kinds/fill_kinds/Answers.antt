@@ -1,4 +1,4 @@
-use mathlib.Core.Path.{_≡_, ap, sym, subst}
+use mathlib.Core.Path.{ap, sym, subst}
 use Prim.Native.Nat.{ℕ, _+_, _*_}
 use native.Mathlib.Omega.{arith}
 use lib.ListN.{length-set, set}
@@ -22,11 +22,11 @@ next-phase-requires c κs = record { low = along-low (c .period-period .result) 
 
 pub loop-k-again : need.loop-k-again
 loop-k-again c = (
-    subst (λ (z : ℕ). Along (c .period-period .result) (flags (c .args .heard .now)) (set (c .loop-k .kinds) (c .loop-k .k) (c .kind .result)) (c .loop-k .k + 1) (c .next-phase .result) (c .loop-k .at + z)) (sym (c .sends-at .ensures))
-    (along-more (c .period-period .result) (rated-as (c .period-period .result) (c .args .rate) (c .period-period .ensures)) (flags (c .args .heard .now)) (c .loop-k .kinds) (c .args .periods) (c .loop-k .k) (c .loop-k .phase) (c .loop-k .at) (c .loop-k-test .taken) (c .loop-k .inv .0)
-    (c .kind .result) (c .next-phase .result) (omega (arith, c .loop-k-test .taken, c .loop-k .inv .1, c .pre .short, ap (λ (p : ℕ). p * c .args .periods) (c .period-period .ensures))) (c .kind .ensures) (c .next-phase .ensures .within) (c .next-phase .ensures .around)),
-    simp length-set (c .loop-k .inv .1),
-    )
+  subst (λ (z : ℕ). Along (c .period-period .result) (flags (c .args .heard .now)) (set (c .loop-k .kinds) (c .loop-k .k) (c .kind .result)) (c .loop-k .k + 1) (c .next-phase .result) (c .loop-k .at + z)) (sym (c .sends-at .ensures))
+      (along-more (c .period-period .result) (rated-as (c .period-period .result) (c .args .rate) (c .period-period .ensures)) (flags (c .args .heard .now)) (c .loop-k .kinds) (c .args .periods) (c .loop-k .k) (c .loop-k .phase) (c .loop-k .at) (c .loop-k-test .taken) (c .loop-k .inv .0)
+      (c .kind .result) (c .next-phase .result) (omega (arith, c .loop-k-test .taken, c .loop-k .inv .1, c .pre .short, ap (λ (p : ℕ). p * c .args .periods) (c .period-period .ensures))) (c .kind .ensures) (c .next-phase .ensures .within) (c .next-phase .ensures .around)),
+  simp length-set (c .loop-k .inv .1),
+)
 
 pub returns : need.returns
 returns c = along-end (c .period-period .result) (period (c .args .rate)) (flags (c .args .heard .now)) (c .loop-k .kinds) (c .args .periods) (c .loop-k .k) (c .loop-k .phase) (c .loop-k .at) (c .period-period .ensures) (c .loop-k-test .left) (c .loop-k .inv .0)
