@@ -93,7 +93,7 @@ after-cost m law v (suc k) t c le h =
     omega arith
 
 -- what holds below k, and at k, holds up to k
-at-most : (P : ℕ → Type 0) (k : ℕ) → ((j : ℕ) → j < k → P j) → P k → (j : ℕ) → j < suc k → P j
+pub at-most : (P : ℕ → Type 0) (k : ℕ) → ((j : ℕ) → j < k → P j) → P k → (j : ℕ) → j < suc k → P j
 at-most P k below here j h = ⊎-elim (λ e. subst P (sym e) here) (λ l. below j l) (eq-or-lt-of-le (omega arith))
 
 bits-on : (w v : Path) (k : ℕ) (b : Bool) → BitsFirst w v k → (b ≡ v k) ⊎ ((b ≡ false) × (v k ≡ true)) → BitsFirst (upd w k b) v (suc k)
