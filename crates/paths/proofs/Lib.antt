@@ -12,3 +12,4 @@ pub mod Lanewise
 pub mod Values
 pub mod Backs
 pub mod Ties
+pub mod Registers
