@@ -47,6 +47,14 @@ fn last(n: usize, stage: usize, t: usize) -> bool
     if t % 2 == 1 { n < stage + 9 } else { false }
 }
 
+// By a maximum and not by a choice, so that it goes into vectors.
+fn close(closed: bool, cost: u16) -> u16
+    ensures { λ r. ⌜ r ≡ cond closed 65535 cost ⌝ }
+{
+    let floor = if closed { CLOSED_ENTRY } else { 0 };
+    cost.max(floor)
+}
+
 fn price(kinds: &[u8], costs: &[u16; 8192], totals: &[u16; 256], stage: usize, t: usize, second: bool) -> u16
     requires short { ⌜ length (now kinds) ≤ 7680 ⌝ }
     requires early { ⌜ stage < length (now kinds) ⌝ }
@@ -55,11 +63,7 @@ fn price(kinds: &[u8], costs: &[u16; 8192], totals: &[u16; 256], stage: usize, t
     ensures { λ r. ⌜ r ≡ priced (now (kinds .entry)) (now (costs .entry)) (now (totals .entry)) stage t second ⌝ }
 {
     let cost = share(costs, totals, kinds[stage] as usize, t, second);
-    if last(kinds.len(), stage, t) {
-        CLOSED_ENTRY
-    } else {
-        cost
-    }
+    close(last(kinds.len(), stage, t), cost)
 }
 
 pub impl Trellis for Heard<'_> as HeardTrellis {

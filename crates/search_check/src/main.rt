@@ -1,0 +1,3 @@
+//! Compares the search with every path of small trellises.
+
+fn main(rt: LibcRuntime) {}
