@@ -4,7 +4,7 @@ use mathlib.Core.Path.{_≡_, refl, sym, ap, subst, _∙_}
 use mathlib.Core.Bool.{Bool, true, false, cond}
 use mathlib.Core.Logic.{⊎-elim, _≢_}
 use mathlib.Core.List.{List, [], _∷_, map}
-use Prim.Native.Nat.{ℕ, zero, suc, _+_, _/_, _%_, _^_, _<_, _≤_, min}
+use Prim.Native.Nat.{ℕ, zero, suc, _+_, _*_, _/_, _%_, _^_, _<_, _≤_, min}
 use native.Mathlib.Omega.{arith}
 use borrow.Author.Tests.{lt-ltb, le-ltb}
 use lib.Dec.{ltb}
@@ -27,6 +27,14 @@ wide-capped x =
     (λ l. let e = wide-low x l in omega arith)
     (λ l. let e = wide-top x l in omega arith)
     (cases-lt x 65535)
+
+-- a closed cost by its high byte
+pub wide-high : (x c : ℕ) → c ≤ 65535 → (c < 65535 → c ≤ 255) → Alike (x + c + c / 256 * 4194304) (x + wide c)
+wide-high x c fits small =
+    ⊎-elim
+    (λ l. let e = wide-low c l in let s = small l in omega arith)
+    (λ l. let e = wide-top c l in omega arith)
+    (cases-lt c 65535)
 
 pub wide-min : (x y : ℕ) → wide (min x y) ≡ min (wide x) (wide y)
 wide-min x y =
