@@ -12,7 +12,7 @@ use std::io;
 use trellis::PATH_BITS;
 use trellis::WORK_WORDS;
 
-const TRELLISES: u32 = 4000;
+const TRELLISES: u32 = 20000;
 
 #[derive(Clone, Copy)]
 struct Tally {
