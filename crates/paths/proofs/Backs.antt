@@ -61,6 +61,18 @@ module _ (m : Model) (law : Lawful m) (on : m .wanted ≡ true) (k : ℕ) (early
   pub enters-alike : (row : List ℕ) → Enters (m .states) (into m k t i) from bit cost → Alike (getD row from 0 + wide cost) (via row (into m k t i))
   enters-alike row h = alike-by row (into m k t i) refl h
 
+  small-by : (o : Option (ℕ × Bool × ℕ)) → into m k t i ≡ o → Enters (m .states) o from bit cost → cost < 65535 → cost ≤ 255
+  small-by None e h cheap = absurd (omega arith)
+  small-by (Some x) e h cheap =
+      let s = into-sound m law on k early t i (x .0) (x .1) (x .2) e in
+      let b = law .bounded k (x .0) (x .1) t (x .2) early (s .0) (s .1) in
+      let c = h .2 in
+      omega arith
+
+  -- its cost is closed or small
+  pub enters-small : Enters (m .states) (into m k t i) from bit cost → cost < 65535 → cost ≤ 255
+  enters-small h = small-by (into m k t i) refl h
+
   room-by : (row : List ℕ) (top : ℕ) → Room m k row top → (o : Option (ℕ × Bool × ℕ)) → into m k t i ≡ o → Enters (m .states) o from bit cost → getD row from 0 < 536870912 → cost < 65535 → getD row from 0 + cost < top
   room-by row top room None e h opened cheap = absurd (omega arith)
   room-by row top room (Some (s, b, c)) e h opened cheap =

@@ -11,3 +11,5 @@ pub mod Lanes
 pub mod Lanewise
 pub mod Values
 pub mod Backs
+pub mod Ties
+pub mod Registers

@@ -93,7 +93,7 @@ after-cost m law v (suc k) t c le h =
     omega arith
 
 -- what holds below k, and at k, holds up to k
-at-most : (P : ℕ → Type 0) (k : ℕ) → ((j : ℕ) → j < k → P j) → P k → (j : ℕ) → j < suc k → P j
+pub at-most : (P : ℕ → Type 0) (k : ℕ) → ((j : ℕ) → j < k → P j) → P k → (j : ℕ) → j < suc k → P j
 at-most P k below here j h = ⊎-elim (λ e. subst P (sym e) here) (λ l. below j l) (eq-or-lt-of-le (omega arith))
 
 bits-on : (w v : Path) (k : ℕ) (b : Bool) → BitsFirst w v k → (b ≡ v k) ⊎ ((b ≡ false) × (v k ≡ true)) → BitsFirst (upd w k b) v (suc k)
@@ -122,3 +122,18 @@ pub first-lower : (m : Model) (w v : Path) (k : ℕ) (b : Bool) → state-of (af
 first-lower m w v k b l e =
     lower-state k (omega arith) (let p = ap state-of (after-upd m w k b k (omega arith)) in omega arith)
     (λ j g h. let q : suc k ≡ j = omega arith in subst (λ n. state-of (after m (upd w k b) n) ≡ state-of (after m v n)) q e)
+
+-- a bound that every open branch keeps bounds every open path
+pub cheap-by : (m : Model) (bound : ℕ → ℕ) → m .start < m .states → ((k s : ℕ) (b : Bool) (t c : ℕ) → k < m .stages → s < m .states → m .branch k s b ≡ Some (t, c) → (t < m .states) × (bound k + c ≤ bound (suc k))) → (p : Path) (k t c : ℕ) → k ≤ m .stages → after m p k ≡ Some (t, c) → (t < m .states) × (c ≤ bound k)
+unfolding after
+cheap-by m bound start step p zero t c le h =
+    let q = some-inj (m .start, 0) (t, c) h in
+    let x : m .start ≡ t = ap (λ z. z .0) q in
+    let y : 0 ≡ c = ap (λ z. z .1) q in
+    (omega arith, omega arith)
+cheap-by m bound start step p (suc k) t c le h =
+    let r : Came m p k t c = came m p k t c h in
+    let w = cheap-by m bound start step p k (r .s) (r .d) (omega arith) (r .at) in
+    let b = step k (r .s) (p k) t (r .e) (omega arith) (w .0) (r .step) in
+    let sum = r .sum in
+    (b .0, omega arith)

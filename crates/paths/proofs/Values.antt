@@ -4,11 +4,11 @@ use mathlib.Core.Path.{_≡_, refl, sym, ap, subst, _∙_}
 use mathlib.Core.Bool.{Bool, true, false, cond}
 use mathlib.Core.Logic.{⊎-elim, _≢_}
 use mathlib.Core.List.{List, [], _∷_, map}
-use Prim.Native.Nat.{ℕ, zero, suc, _+_, _/_, _%_, _^_, _<_, _≤_, min}
+use Prim.Native.Nat.{ℕ, zero, suc, _+_, _*_, _/_, _%_, _^_, _<_, _≤_, min}
 use native.Mathlib.Omega.{arith}
 use borrow.Author.Tests.{lt-ltb, le-ltb}
 use lib.Dec.{ltb}
-use lib.ListN.{getD, length, set}
+use lib.ListN.{getD, length, set, length-set}
 use Rattle.std.proofs.shelf.Tests.{cases-lt}
 use Rattle.paths.specs.Model.{Model, Lawful}
 use Rattle.paths.proofs.Rows.{into, via, Alike, Candidates, Selected, Relaxed}
@@ -27,6 +27,14 @@ wide-capped x =
     (λ l. let e = wide-low x l in omega arith)
     (λ l. let e = wide-top x l in omega arith)
     (cases-lt x 65535)
+
+-- a closed cost by its high byte
+pub wide-high : (x c : ℕ) → c ≤ 65535 → (c < 65535 → c ≤ 255) → Alike (x + c + c / 256 * 4194304) (x + wide c)
+wide-high x c fits small =
+    ⊎-elim
+    (λ l. let e = wide-low c l in let s = small l in omega arith)
+    (λ l. let e = wide-top c l in omega arith)
+    (cases-lt c 65535)
 
 pub wide-min : (x y : ℕ) → wide (min x y) ≡ min (wide x) (wide y)
 wide-min x y =
@@ -127,6 +135,14 @@ candidates-more up m k i row a t x lt old here j h =
     (λ e. subst (λ n. Alike (getD (values up (set a t x)) n 0) (via row (into m k n i))) (sym e) (subst (λ n. Alike n (via row (into m k t i))) (sym (values-same up a t x lt)) here))
     (λ l. let ne : j ≢ t = λ q. omega arith in subst (λ n. Alike n (via row (into m k j i))) (sym (values-other up a t j x ne)) (old j l))
     (eq-or-lt-of-le {n = j} {m = t} (omega arith))
+
+-- two lanes more
+pub candidates-two : {X : Type 0} (up : X → ℕ) (m : Model) (k : ℕ) (i : Bool) (row : List ℕ) (a : List X) (h : ℕ) (x y : X) → 2 * h + 1 < length a → Candidates m k i row (values up a) (2 * h) → Alike (up x) (via row (into m k (2 * h) i)) → Alike (up y) (via row (into m k (2 * h + 1) i)) → Candidates m k i row (values up (set (set a (2 * h) x) (2 * h + 1) y)) (2 * (h + 1))
+candidates-two up m k i row a h x y lt old even odd =
+    let e : 2 * h + 1 + 1 ≡ 2 * (h + 1) = omega arith in
+    let l = length-set a (2 * h) x in
+    subst (λ n. Candidates m k i row (values up (set (set a (2 * h) x) (2 * h + 1) y)) n) e
+    (candidates-more up m k i row (set a (2 * h) x) (2 * h + 1) y (omega arith) (candidates-more up m k i row a (2 * h) x (omega arith) old even) odd)
 
 -- ---- one stage
 pub relaxed : (m : Model) (k : ℕ) (row a b next : List ℕ) (word : ℕ) → Candidates m k false row a 64 → Candidates m k true row b 64 → Selected a b next word → Relaxed m k row next word

@@ -27,6 +27,7 @@ pub(crate) trait Lane: Copy {
 
     fn plus(self, cost: u16) -> Self
         requires capped { ⌜ value self ≤ 536870912 ⌝ }
+        requires small { ⌜ (cost < 65535 → cost ≤ 255) ⌝ }
         requires room { ⌜ (value self < 536870912 → cost < 65535 → value self + cost < top) ⌝ }
         ensures { λ r. ⌜ Alike (value r) (value self + wide cost) ⌝ };
 
@@ -129,8 +130,9 @@ pub(crate) impl Lane for u32 as Wide {
         [CLOSED_BRANCH; 64]
     }
 
+    // Only a closed cost has a high byte, which alone is past 2 ^ 29 here; with no test, this goes into vectors.
     fn plus(self, cost: u16) -> u32 {
-        self + widen(cost)
+        self + cost as u32 + cost as u32 / 256 * 4194304
     }
 
     fn select(a: &[u32; 64], b: &[u32; 64], next: &mut [u32; 64]) -> u64 {

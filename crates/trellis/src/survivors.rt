@@ -40,27 +40,35 @@ fn candidate<T: Trellis, L: Lane>(trellis: &T, k: usize, t: usize, second: bool,
     row[e.from].plus(e.cost)
 }
 
-// Both candidates of one lane.
-fn lane_candidates<T: Trellis, L: Lane>(
+// The candidates of two neighbouring lanes: all four are made before any is written, so that no write comes between
+// the reads.
+fn pair_candidates<T: Trellis, L: Lane>(
     trellis: &T,
     k: usize,
-    t: usize,
+    h: usize,
     row: &[L; 64],
     a: &mut [L; 64],
     b: &mut [L; 64],
 )
     requires on { ⌜ model (now trellis) .wanted ≡ true ⌝ }
     requires early { ⌜ k < model (now trellis) .stages ⌝ }
-    requires low { ⌜ t < 64 ⌝ }
+    requires low { ⌜ h < 32 ⌝ }
     requires capped { ⌜ Capped (values (L·Lane .value) (now row)) ⌝ }
     requires room { ⌜ Room (model (now trellis)) k (values (L·Lane .value) (now row)) (L·Lane .top) ⌝ }
-    requires first { ⌜ Candidates (model (now trellis)) k false (values (L·Lane .value) (now row)) (values (L·Lane .value) (now a)) t ⌝ }
-    requires second { ⌜ Candidates (model (now trellis)) k true (values (L·Lane .value) (now row)) (values (L·Lane .value) (now b)) t ⌝ }
-    ensures first { λ _. ⌜ Candidates (model (now (trellis .entry))) k false (values (L·Lane .value) (now (row .entry))) (values (L·Lane .value) (now (a .exit))) (t + 1) ⌝ }
-    ensures second { λ _. ⌜ Candidates (model (now (trellis .entry))) k true (values (L·Lane .value) (now (row .entry))) (values (L·Lane .value) (now (b .exit))) (t + 1) ⌝ }
+    requires first { ⌜ Candidates (model (now trellis)) k false (values (L·Lane .value) (now row)) (values (L·Lane .value) (now a)) (2 * h) ⌝ }
+    requires second { ⌜ Candidates (model (now trellis)) k true (values (L·Lane .value) (now row)) (values (L·Lane .value) (now b)) (2 * h) ⌝ }
+    ensures first { λ _. ⌜ Candidates (model (now (trellis .entry))) k false (values (L·Lane .value) (now (row .entry))) (values (L·Lane .value) (now (a .exit))) (2 * (h + 1)) ⌝ }
+    ensures second { λ _. ⌜ Candidates (model (now (trellis .entry))) k true (values (L·Lane .value) (now (row .entry))) (values (L·Lane .value) (now (b .exit))) (2 * (h + 1)) ⌝ }
 {
-    a[t] = candidate(trellis, k, t, false, row);
-    b[t] = candidate(trellis, k, t, true, row);
+    let t = 2 * h;
+    let even_first = candidate(trellis, k, t, false, row);
+    let even_second = candidate(trellis, k, t, true, row);
+    let odd_first = candidate(trellis, k, t + 1, false, row);
+    let odd_second = candidate(trellis, k, t + 1, true, row);
+    a[t] = even_first;
+    a[t + 1] = odd_first;
+    b[t] = even_second;
+    b[t + 1] = odd_second;
 }
 
 // The candidates of all lanes: two lanes a turn, so that their predecessors can be neighbours and go into vectors.
@@ -78,10 +86,8 @@ fn candidates<T: Trellis, L: Lane>(
     ensures first { λ _. ⌜ Candidates (model (now (trellis .entry))) k false (values (L·Lane .value) (now (row .entry))) (values (L·Lane .value) (now (a .exit))) 64 ⌝ }
     ensures second { λ _. ⌜ Candidates (model (now (trellis .entry))) k true (values (L·Lane .value) (now (row .entry))) (values (L·Lane .value) (now (b .exit))) 64 ⌝ }
 {
-    for h in 0..32 {
-        for q in 0..2 {
-            lane_candidates(trellis, k, 2 * h + q, row, a, b);
-        }
+    for h in 0..32usize {
+        pair_candidates(trellis, k, h, row, a, b);
     }
 }
 

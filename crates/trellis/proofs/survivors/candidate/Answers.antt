@@ -3,7 +3,7 @@ use mathlib.Core.Path.{_≡_, refl, sym, subst, _∙_, ap}
 use native.Mathlib.Omega.{arith}
 use Prim.Native.Nat.{ℕ, _*_, _<_, _≤_, _+_, min}
 use lib.ListN.{getD, length}
-use Rattle.paths.proofs.Backs.{enters-lane, enters-alike, enters-room}
+use Rattle.paths.proofs.Backs.{enters-lane, enters-alike, enters-room, enters-small}
 use Rattle.paths.proofs.Lanes.{values, wide}
 use Rattle.paths.proofs.Rows.{via, Alike, into}
 use Rattle.paths.proofs.Values.{getD-values}
@@ -30,6 +30,7 @@ plus-requires g c κs =
     let e = getD-values (g .L·Lane .value) (c .args .row .now) (c .lane-entry-e .result .from) (c .index-row-e .result) (omega arith) in
     record {
       capped = subst (λ n. n ≤ 536870912) e (c .pre .capped (c .lane-entry-e .result .from) lt);
+      small = enters-small _ law (c .pre .on) _ (c .pre .early) _ _ _ _ _ (c .lane-entry-e .ensures);
       room = subst (λ n. n < 536870912 → c .lane-entry-e .result .cost < 65535 → n + c .lane-entry-e .result .cost < g .L·Lane .top) e (enters-room _ law (c .pre .on) _ (c .pre .early) _ _ _ _ _ _ _ (c .pre .room) (c .lane-entry-e .ensures));
     }
 

@@ -1,5 +1,5 @@
 use mathlib.Core.Bool.{true, false}
-use Prim.Native.Nat.{_*_, _+_}
+use Prim.Native.Nat.{_*_}
 use Rattle.paths.proofs.Lanes.{values}
 use Rattle.paths.proofs.Rows.{Candidates}
 use Rattle.trellis.proofs.survivors.candidates.Given as given
@@ -8,8 +8,3 @@ abbrev pub Inv-loop-h : given.InvT-loop-h
 Inv-loop-h g l =
     let m = g .T·Trellis .model (l .trellis) in
     Candidates m (l .k) false (values (g .L·Lane .value) (l .row)) (values (g .L·Lane .value) (l .a)) (2 * l .h) × Candidates m (l .k) true (values (g .L·Lane .value) (l .row)) (values (g .L·Lane .value) (l .b)) (2 * l .h)
-
-abbrev pub Inv-loop-q : given.InvT-loop-q
-Inv-loop-q g l =
-    let m = g .T·Trellis .model (l .trellis) in
-    Candidates m (l .k) false (values (g .L·Lane .value) (l .row)) (values (g .L·Lane .value) (l .a)) (2 * l .h + l .q) × Candidates m (l .k) true (values (g .L·Lane .value) (l .row)) (values (g .L·Lane .value) (l .b)) (2 * l .h + l .q)
