@@ -1,4 +1,3 @@
-pub mod Parts
 pub mod Taking
 pub mod Messages
 pub mod Packing

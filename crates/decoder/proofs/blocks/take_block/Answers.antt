@@ -19,11 +19,11 @@ pub returns-in-Break-wrong : need.returns-in-Break-wrong
 returns-in-Break-wrong c =
     let e : c .profile-profile .result ≡ profiled (asked (c .args .order)) = c .profile-profile .ensures .value in
     let f = subst Fitting e (c .profile-profile .ensures .fits) in
-    let o = outside (asked (c .args .order)) (c .profile-profile .result) (c .args .b) (c .args .blocks .now) (c .correct-at .last .blocks) e (c .profile-profile .ensures .fits) (c .correct-at .ensures .before) (c .correct-at .ensures .past) in
+    let o = outside (asked (c .args .order)) (c .profile-profile .result) (c .args .b) (c .args .blocks .now) (c .correct-at .last .bytes) e (c .profile-profile .ensures .fits) (c .correct-at .ensures .before) (c .correct-at .ensures .behind) in
     record {
-      taken = subst (OneTaken (asked (c .args .order)) (c .args .b) (word (c .args .blocks .now)) (word (c .correct-at .last .blocks))) (sym (c .from-residual .ensures))
-        (taken-none (asked (c .args .order)) (c .args .b) (c .args .blocks .now) (c .correct-at .last .blocks) (f .parity)
-          (subst (λ (p : Profile). RefusedAt p (c .args .b) (c .args .blocks .now) (c .correct-at .last .blocks)) e (c .in-Break-wrong .ensures tt .word)));
+      taken = subst (OneTaken (asked (c .args .order)) (c .args .b) (word (c .args .blocks .now)) (word (c .correct-at .last .bytes))) (sym (c .from-residual .ensures))
+        (taken-none (asked (c .args .order)) (c .args .b) (c .args .blocks .now) (c .correct-at .last .bytes) (f .parity)
+          (subst (λ (p : Profile). RefusedAt p (c .args .b) (c .args .blocks .now) (c .correct-at .last .bytes)) e (c .in-Break-wrong .ensures tt .answer)));
       before = o .before;
       past = o .past;
     }
@@ -32,12 +32,12 @@ pub returns-then-blocks-at-ne0 : need.returns-then-blocks-at-ne0
 returns-then-blocks-at-ne0 c =
     let e : c .profile-profile .result ≡ profiled (asked (c .args .order)) = c .profile-profile .ensures .value in
     let f = subst Fitting e (c .profile-profile .ensures .fits) in
-    let o = outside (asked (c .args .order)) (c .profile-profile .result) (c .args .b) (c .args .blocks .now) (c .correct-at .last .blocks) e (c .profile-profile .ensures .fits) (c .correct-at .ensures .before) (c .correct-at .ensures .past) in
+    let o = outside (asked (c .args .order)) (c .profile-profile .result) (c .args .b) (c .args .blocks .now) (c .correct-at .last .bytes) e (c .profile-profile .ensures .fits) (c .correct-at .ensures .before) (c .correct-at .ensures .behind) in
     record {
-      taken = taken-untailed (asked (c .args .order)) (c .args .b) (c .args .blocks .now) (c .correct-at .last .blocks) (f .parity) (c .in-Continue-wrong .wrong)
-        (subst (λ (p : Profile). CorrectedAt p (c .args .b) (c .args .blocks .now) (c .correct-at .last .blocks) (c .in-Continue-wrong .wrong)) e (c .in-Continue-wrong .ensures tt .word))
+      taken = taken-untailed (asked (c .args .order)) (c .args .b) (c .args .blocks .now) (c .correct-at .last .bytes) (f .parity) (c .in-Continue-wrong .wrong)
+        (subst (λ (p : Profile). CorrectedAt p (c .args .b) (c .args .blocks .now) (c .correct-at .last .bytes) (c .in-Continue-wrong .wrong)) e (c .in-Continue-wrong .ensures tt .answer))
         (omega (arith, f .some, f .parity)) (c .if-b-symbols .taken ∙ c .symbols .ensures)
-        (subst (λ (p : Profile). getD (c .correct-at .last .blocks) (p .block * c .args .b + (p .block - 1)) 0 ≡ 0 → ⊥) e (c .if-blocks-at-ne0 .taken));
+        (subst (λ (p : Profile). getD (c .correct-at .last .bytes) (p .block * c .args .b + (p .block - 1)) 0 ≡ 0 → ⊥) e (c .if-blocks-at-ne0 .taken));
       before = o .before;
       past = o .past;
     }
@@ -46,13 +46,13 @@ pub returns : need.returns
 returns c =
     let e : c .profile-profile .result ≡ profiled (asked (c .args .order)) = c .profile-profile .ensures .value in
     let f = subst Fitting e (c .profile-profile .ensures .fits) in
-    let o = outside (asked (c .args .order)) (c .profile-profile .result) (c .args .b) (c .args .blocks .now) (c .correct-at .last .blocks) e (c .profile-profile .ensures .fits) (c .correct-at .ensures .before) (c .correct-at .ensures .past) in
+    let o = outside (asked (c .args .order)) (c .profile-profile .result) (c .args .b) (c .args .blocks .now) (c .correct-at .last .bytes) e (c .profile-profile .ensures .fits) (c .correct-at .ensures .before) (c .correct-at .ensures .behind) in
     record {
-      taken = taken-some (asked (c .args .order)) (c .args .b) (c .args .blocks .now) (c .correct-at .last .blocks) (f .parity) (c .in-Continue-wrong .wrong)
-        (subst (λ (p : Profile). CorrectedAt p (c .args .b) (c .args .blocks .now) (c .correct-at .last .blocks) (c .in-Continue-wrong .wrong)) e (c .in-Continue-wrong .ensures tt .word))
+      taken = taken-some (asked (c .args .order)) (c .args .b) (c .args .blocks .now) (c .correct-at .last .bytes) (f .parity) (c .in-Continue-wrong .wrong)
+        (subst (λ (p : Profile). CorrectedAt p (c .args .b) (c .args .blocks .now) (c .correct-at .last .bytes) (c .in-Continue-wrong .wrong)) e (c .in-Continue-wrong .ensures tt .answer))
         (omega (arith, f .some, f .parity))
         (λ last. elim (c .else-b-symbols .came) [
-          | else-b-symbols·by·then-b-symbols·else-blocks-at-ne0 w ↦ subst (λ (p : Profile). getD (c .correct-at .last .blocks) (p .block * c .args .b + (p .block - 1)) 0 ≡ 0) e (w .if-blocks-at-ne0 .left)
+          | else-b-symbols·by·then-b-symbols·else-blocks-at-ne0 w ↦ subst (λ (p : Profile). getD (c .correct-at .last .bytes) (p .block * c .args .b + (p .block - 1)) 0 ≡ 0) e (w .if-blocks-at-ne0 .left)
           | else-b-symbols·by·else-b-symbols w ↦ absurd (w .if-b-symbols .left (last ∙ sym (c .symbols .ensures)))
         ]);
       before = o .before;
