@@ -5,6 +5,7 @@ use Rattle.words.specs.Words.{value, ones}
 use Rattle.scrambler.specs.Scrambler.{fresh, pushed, after, scrambled}
 use Rattle.inner_code.specs.Inner.{earlier, coded}
 use Rattle.interleaver.specs.Interleaver.{spread, turned, place}
+use Rattle.constellation.proofs.Nearness.{decision-cases}
 use Rattle.coder.specs.Cases.{Cases}
 
 pub cases : Cases
@@ -19,6 +20,7 @@ cases =
       spreads = refl;
       goes = refl;
       mapped = refl;
+      decided = decision-cases;
       fits = refl;
       too-long = refl;
       fits-all = refl;

@@ -15,6 +15,7 @@ use Rattle.scrambler.specs.Scrambler.{start, scrambled}
 use Rattle.inner_code.specs.Inner.{coded}
 use Rattle.interleaver.specs.Interleaver.{spread, place}
 use Rattle.constellation.specs.Constellation.{level, point}
+use Rattle.constellation.specs.Decisions.{DecisionCases}
 
 -- the first n bits as a list
 abbrev pub firsts : ℕ → Bits → List Bool
@@ -38,6 +39,8 @@ pub record Cases : Type 0 where
   pub goes : place 16 4 1 ≡ 65
   -- 011101 in 64-QAM is 1,792 and -256
   pub mapped : point 6 (λ k. getD (false ∷ true ∷ true ∷ true ∷ false ∷ true ∷ []) k false) 0 ≡ record { i = pos 1792; q = negsuc 255 }
+  -- 16-QAM axes 0, 512, -512 and -513 are decided to 00, 01, 10 and 11
+  pub decided : DecisionCases
   -- rate 2, one symbol: 35 bytes are accepted, and 36 are refused with 4
   pub fits : first (encode-rows (asking 2 1) 35 192) ≡ None
   pub too-long : first (encode-rows (asking 2 1) 36 192) ≡ Some DataLength

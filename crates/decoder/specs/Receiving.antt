@@ -18,10 +18,10 @@ use Rattle.standard.specs.declared.refusal.Refusal.the-variants.{PointCount, Ou
 use Rattle.standard.specs.Profiles.{period}
 use Rattle.standard.specs.Refusals.{Row, row, first, request-rows, capacity}
 use Rattle.scrambler.specs.Scrambler.{start, scrambled}
-use Rattle.outer_code.specs.Outer.{Outer}
+use Rattle.outer_code.specs.Outer.{AreBytes}
 use Rattle.outer_theory.specs.Syndromes.{differing}
 use Rattle.inner_words.specs.InnerWords.{Nearest, wrong}
-use Rattle.coder.specs.Sending.{profiled}
+use Rattle.coder.specs.Sending.{Sent, filled, profiled}
 use Rattle.decoder.specs.Hearing.{Received}
 use Rattle.decoder.specs.Taken.{Taken, total}
 use Rattle.decoder.specs.declared.report.Report.{Report}
@@ -90,3 +90,13 @@ Decodes r points words old new (Err e) =
     (new ≡ old)
     × ((first (decode-rows r (length points) (length old) words) ≡ Some e)
       ⊎ ((first (decode-rows r (length points) (length old) words) ≡ None) × Untaken r points e))
+
+-- no bit was wrong and no byte was corrected, and the data stands there filled up
+abbrev pub Restored : Request → List ℕ → List ℕ → Result Report Refusal → Type 0
+Restored r d new (Ok report) = (report .«wrong_bits» ≡ 0) × (report .«corrected_bytes» ≡ 0) × ((i : ℕ) → i < capacity (r .rate) (r .symbols) → getD new i 0 ≡ filled d i)
+Restored r d new (Err e) = ⊥
+
+-- the clean round trip: points as they were sent, and room for the data
+abbrev pub RoundTrip : Request → List Point → ℕ → List ℕ → List ℕ → Result Report Refusal → Type 0
+RoundTrip r points words old new answer =
+    (d : List ℕ) → AreBytes d → Sent r d points → first (decode-rows r (length points) (length old) words) ≡ None → Restored r d new answer

@@ -1,5 +1,5 @@
 ghost use Prim.Native.Nat.{_*_, _≤_};
-ghost use Rattle.decoder.specs.Receiving.{Decodes};
+ghost use Rattle.decoder.specs.Receiving.{Decodes, RoundTrip};
 ghost use Rattle.decoder.specs.Steps.{Answers};
 ghost use Rattle.standard.specs.Refusals.{asked, capacity as capable};
 ghost use lib.ListN.{length};
@@ -33,9 +33,9 @@ fn decode_order(order: Order, points: &[Point], out: &mut [u8], work: &mut [u64]
     }
 }
 
-// The data of the burst whose points were received, filling included. A refusal leaves the output as it was.
-pub fn decode(request: Request, points: &[Point], out: &mut [u8], work: &mut [u64]) -> Result<Report, Refusal>
-    ensures decoded { λ r. ⌜ Decodes request (now (points .entry)) (length (now (work .entry))) (now (out .entry)) (now (out .exit)) r ⌝ }
+// Looks at the conditions in their order, and decodes where none applies.
+fn decode_request(request: Request, points: &[Point], out: &mut [u8], work: &mut [u64]) -> Result<Report, Refusal>
+    ensures { λ r. ⌜ Decodes request (now (points .entry)) (length (now (work .entry))) (now (out .entry)) (now (out .exit)) r ⌝ }
 {
     let order = Order::accept(request)?;
     if points.len() != 192 * order.symbols() {
@@ -45,4 +45,12 @@ pub fn decode(request: Request, points: &[Point], out: &mut [u8], work: &mut [u6
         return Err(Refusal::Output);
     }
     decode_order(order, points, out, work)
+}
+
+// The data of the burst whose points were received, filling included. A refusal leaves the output as it was.
+pub fn decode(request: Request, points: &[Point], out: &mut [u8], work: &mut [u64]) -> Result<Report, Refusal>
+    ensures decoded { λ r. ⌜ Decodes request (now (points .entry)) (length (now (work .entry))) (now (out .entry)) (now (out .exit)) r ⌝ }
+    ensures clean { λ r. ⌜ RoundTrip request (now (points .entry)) (length (now (work .entry))) (now (out .entry)) (now (out .exit)) r ⌝ }
+{
+    decode_request(request, points, out, work)
 }

@@ -163,4 +163,3 @@ relaxed m k row a b next word ua ub s =
         (λ h. lt-ltb y x h ∙ sym (lt-ltb v u (omega arith)))
         (λ h. le-ltb y x h ∙ sym (le-ltb v u (omega arith)))
         (cases-lt y x)
-

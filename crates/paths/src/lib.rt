@@ -14,11 +14,9 @@ ghost use mathlib.Core.Path.{_≡_};
 pub fn ties_are_decided()
     ensures total { λ _. ⌜ ((m : Model) (p q : Path) (n : ℕ) → First m p q n ⊎ First m q p n) ⌝ }
     ensures same { λ _. ⌜ ((m : Model) (p q : Path) (n : ℕ) → First m p q n → First m q p n → (j : ℕ) → j < n → p j ≡ q j) ⌝ }
-{
-}
+{}
 
 // What a search promises leaves it one answer: of the model and of the place for the path, not of the memory lent.
 pub fn answers_are_determined()
     ensures { λ _. ⌜ ((m : Model) (old new other : List Bool) (a b : Option ℕ) → length new ≡ length other → Found m old new a → Found m old other b → (a ≡ b) × (new ≡ other)) ⌝ }
-{
-}
+{}

@@ -49,10 +49,17 @@ pub impl Trellis for Counted<'_> as CountedTrellis {
 
     fn branch(&self, stage: usize, state: usize, bit: bool) -> Branch {
         let at = 2 * state + if bit { 1 } else { 0 };
-        Branch { to: self.targets[at] as usize, cost: self.costs[at] as u32 }
+        Branch {
+            to: self.targets[at] as usize,
+            cost: self.costs[at] as u32,
+        }
     }
 
     fn entry(&self, stage: usize, state: usize, second: bool) -> Entry {
-        Entry { from: 0, bit: false, cost: CLOSED_ENTRY }
+        Entry {
+            from: 0,
+            bit: false,
+            cost: CLOSED_ENTRY,
+        }
     }
 }

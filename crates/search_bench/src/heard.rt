@@ -55,7 +55,14 @@ fn close(closed: bool, cost: u16) -> u16
     cost.max(floor)
 }
 
-fn price(kinds: &[u8], costs: &[u16; 8192], totals: &[u16; 256], stage: usize, t: usize, second: bool) -> u16
+fn price(
+    kinds: &[u8],
+    costs: &[u16; 8192],
+    totals: &[u16; 256],
+    stage: usize,
+    t: usize,
+    second: bool,
+) -> u16
     requires short { ⌜ length (now kinds) ≤ 7680 ⌝ }
     requires early { ⌜ stage < length (now kinds) ⌝ }
     requires low { ⌜ t < 64 ⌝ }
@@ -97,8 +104,22 @@ pub impl Trellis for Heard<'_> as HeardTrellis {
 
     fn branch(&self, stage: usize, state: usize, bit: bool) -> Branch {
         let seven = 2 * state + if bit { 1 } else { 0 };
-        let cost = price(self.kinds, self.costs, self.totals, stage, seven % 64, seven / 64 == 1);
-        Branch { to: seven % 64, cost: if cost < CLOSED_ENTRY { cost as u32 } else { CLOSED_BRANCH } }
+        let cost = price(
+            self.kinds,
+            self.costs,
+            self.totals,
+            stage,
+            seven % 64,
+            seven / 64 == 1,
+        );
+        Branch {
+            to: seven % 64,
+            cost: if cost < CLOSED_ENTRY {
+                cost as u32
+            } else {
+                CLOSED_BRANCH
+            },
+        }
     }
 
     fn entry(&self, stage: usize, state: usize, second: bool) -> Entry {

@@ -2,6 +2,7 @@
 mod counted;
 mod heard;
 mod tables;
+
 use counted::Counted;
 use counted::CountedTrellis;
 use heard::Heard;
@@ -44,7 +45,12 @@ fn time_heard(rt: &LibcRuntime, narrow: bool) -> io::Result<u32> {
     tables::fill_heard(&mut costs, &mut totals);
     let mut kinds = [0u8; PATH_BITS];
     tables::fill_kinds(&mut kinds);
-    let heard = Heard { kinds: &kinds, costs: &costs, totals: &totals, narrow };
+    let heard = Heard {
+        kinds: &kinds,
+        costs: &costs,
+        totals: &totals,
+        narrow,
+    };
     time(rt, &heard, 1000)
 }
 
@@ -53,17 +59,33 @@ fn time_counted(rt: &LibcRuntime) -> io::Result<u32> {
     tables::fill_targets(&mut targets);
     let mut costs = [0u8; 5120];
     tables::fill_charges(&mut costs);
-    let counted = Counted { stages: PATH_BITS, targets: &targets, costs: &costs };
+    let counted = Counted {
+        stages: PATH_BITS,
+        targets: &targets,
+        costs: &costs,
+    };
     time(rt, &counted, 50)
 }
 
 fn time_all(rt: &LibcRuntime) -> io::Result<()> {
     let narrow = time_heard(rt, true)?;
-    println!(rt, "64 states, costs in 16 bits: {} ns for 7680 stages", narrow)?;
+    println!(
+        rt,
+        "64 states, costs in 16 bits: {} ns for 7680 stages",
+        narrow
+    )?;
     let wide = time_heard(rt, false)?;
-    println!(rt, "64 states, costs in 32 bits: {} ns for 7680 stages", wide)?;
+    println!(
+        rt,
+        "64 states, costs in 32 bits: {} ns for 7680 stages",
+        wide
+    )?;
     let counted = time_counted(rt)?;
-    println!(rt, "2560 states, the cost alone: {} ns for 7680 stages", counted)?;
+    println!(
+        rt,
+        "2560 states, the cost alone: {} ns for 7680 stages",
+        counted
+    )?;
     Ok(())
 }
 

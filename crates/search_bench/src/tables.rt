@@ -7,6 +7,7 @@ ghost use mathlib.Core.Path.{_≡_};
 
 // The taps of both coded bits among the five middle bits.
 const X_TAPS: u32 = 0b11100;
+
 const Y_TAPS: u32 = 0b01101;
 
 fn total(kind: usize) -> u16
@@ -25,8 +26,16 @@ fn cost(kind: usize, middle: u32) -> u16
     requires { ⌜ kind < 256 ⌝ }
     ensures { λ r. ⌜ r ≤ weight kind ⌝ }
 {
-    let x = if odd(middle & X_TAPS) == (kind % 2 == 1) { 0 } else { (kind / 4 % 8).min(4) as u16 };
-    let y = if odd(middle & Y_TAPS) == (kind / 2 % 2 == 1) { 0 } else { (kind / 32).min(4) as u16 };
+    let x = if odd(middle & X_TAPS) == (kind % 2 == 1) {
+        0
+    } else {
+        (kind / 4 % 8).min(4) as u16
+    };
+    let y = if odd(middle & Y_TAPS) == (kind / 2 % 2 == 1) {
+        0
+    } else {
+        (kind / 32).min(4) as u16
+    };
     x + y
 }
 

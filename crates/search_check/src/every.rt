@@ -29,12 +29,21 @@ fn follow<T: Trellis>(trellis: &T, bits: u32, states: &mut [usize; PLACES]) -> O
         cost = cost.saturating_add(branch.cost);
         states[k + 1] = state;
     }
-    if state < trellis.states() && trellis.is_end(state) { Some(cost) } else { None }
+    if state < trellis.states() && trellis.is_end(state) {
+        Some(cost)
+    } else {
+        None
+    }
 }
 
 // Whether the one path is before the other: on the lower state at the last place where they differ, and where they
 // never differ with bit 0 at the last bit that does.
-fn is_first(states: &[usize; PLACES], bits: u32, others: &[usize; PLACES], other_bits: u32) -> bool {
+fn is_first(
+    states: &[usize; PLACES],
+    bits: u32,
+    others: &[usize; PLACES],
+    other_bits: u32,
+) -> bool {
     for back in 0..PLACES {
         let j = PLACES - 1 - back;
         if states[j] != others[j] {
@@ -51,7 +60,13 @@ fn keep(states: &[usize; PLACES], kept: &mut [usize; PLACES]) {
 }
 
 // Whether a path is better than the best so far.
-fn is_better(cost: u32, bits: u32, states: &[usize; PLACES], best: &Best, kept: &[usize; PLACES]) -> bool {
+fn is_better(
+    cost: u32,
+    bits: u32,
+    states: &[usize; PLACES],
+    best: &Best,
+    kept: &[usize; PLACES],
+) -> bool {
     if cost == best.cost {
         is_first(states, bits, kept, best.bits)
     } else {
@@ -60,22 +75,38 @@ fn is_better(cost: u32, bits: u32, states: &[usize; PLACES], best: &Best, kept: 
 }
 
 // Every path of the trellis, one after the other.
-pub fn best_of_all<T: Trellis>(trellis: &T, states: &mut [usize; PLACES], kept: &mut [usize; PLACES]) -> Option<Best> {
+pub fn best_of_all<T: Trellis>(
+    trellis: &T,
+    states: &mut [usize; PLACES],
+    kept: &mut [usize; PLACES],
+) -> Option<Best> {
     let mut found = false;
-    let mut best = Best { cost: 0, bits: 0, ties: 0 };
+    let mut best = Best {
+        cost: 0,
+        bits: 0,
+        ties: 0,
+    };
     for bits in 0..256u32 {
         // the bits past the last stage make no path of their own
         if bits >> trellis.stages().min(8) as u32 == 0 {
             match follow(trellis, bits, states) {
                 None => {}
                 Some(cost) => {
-                    let ties = if found && cost == best.cost { best.ties.saturating_add(1) } else { 0 };
+                    let ties = if found && cost == best.cost {
+                        best.ties.saturating_add(1)
+                    } else {
+                        0
+                    };
                     if !found || is_better(cost, bits, states, &best, kept) {
                         best = Best { cost, bits, ties };
                         keep(states, kept);
                         found = true;
                     } else if cost == best.cost {
-                        best = Best { cost: best.cost, bits: best.bits, ties };
+                        best = Best {
+                            cost: best.cost,
+                            bits: best.bits,
+                            ties,
+                        };
                     }
                 }
             }

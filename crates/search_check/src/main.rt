@@ -1,8 +1,10 @@
 //! Compares the search with every path of small trellises.
 ghost use Prim.Native.Nat.{_<_, _≤_};
+
 mod compare;
 mod every;
 mod small;
+
 use compare::Outcome;
 use compare::compare;
 use every::PLACES;
@@ -31,8 +33,16 @@ fn cell(x: u32, states: usize) -> u8
     requires { ⌜ 0 < states ⌝ }
 {
     let to = (x >> 8) as usize % states % 8;
-    let cost = if x >> 20 & 3 == 0 { x >> 16 & 15 } else { x >> 16 & 1 };
-    if x >> 28 < 3 { 255 } else { (to + 8 * (cost as usize % 16)) as u8 }
+    let cost = if x >> 20 & 3 == 0 {
+        x >> 16 & 15
+    } else {
+        x >> 16 & 1
+    };
+    if x >> 28 < 3 {
+        255
+    } else {
+        (to + 8 * (cost as usize % 16)) as u8
+    }
 }
 
 // The branches of a trellis; with `twins` both bits of a state lead to the same one.
@@ -42,7 +52,11 @@ fn fill_cells(cells: &mut [u8; 128], seed: u32, states: usize, twins: bool) -> u
     let mut x = seed;
     for j in 0..128usize {
         x = scramble(x);
-        cells[j] = if twins && j % 2 == 1 { cells[j - 1] } else { cell(x, states) };
+        cells[j] = if twins && j % 2 == 1 {
+            cells[j - 1]
+        } else {
+            cell(x, states)
+        };
     }
     x
 }
@@ -64,20 +78,40 @@ fn try_one(number: u32, cells: &[u8; 128], x: u32, states: usize, work: &mut [u6
     let mut expected = [false; PATH_BITS];
     let mut states = [0usize; PLACES];
     let mut kept = [0usize; PLACES];
-    compare(&trellis, work, &mut path, &mut expected, &mut states, &mut kept)
+    compare(
+        &trellis,
+        work,
+        &mut path,
+        &mut expected,
+        &mut states,
+        &mut kept,
+    )
 }
 
 fn add(tally: Tally, number: u32, outcome: Outcome) -> Tally {
     Tally {
-        differed: tally.differed.saturating_add(if outcome.same { 0 } else { 1 }),
-        barred: tally.barred.saturating_add(if outcome.found { 0 } else { 1 }),
+        differed: tally
+            .differed
+            .saturating_add(if outcome.same { 0 } else { 1 }),
+        barred: tally
+            .barred
+            .saturating_add(if outcome.found { 0 } else { 1 }),
         tied: tally.tied.saturating_add(if outcome.tied { 1 } else { 0 }),
-        paths: tally.paths.saturating_add(if outcome.found && number % 4 > 0 { 1 } else { 0 }),
+        paths: tally.paths.saturating_add(if outcome.found && number % 4 > 0 {
+            1
+        } else {
+            0
+        }),
     }
 }
 
 fn try_all(work: &mut [u64]) -> Tally {
-    let mut tally = Tally { differed: 0, barred: 0, tied: 0, paths: 0 };
+    let mut tally = Tally {
+        differed: 0,
+        barred: 0,
+        tied: 0,
+        paths: 0,
+    };
     let mut cells = [255u8; 128];
     let mut x = 1u32;
     for number in 0..TRELLISES {
@@ -92,8 +126,16 @@ fn main(rt: LibcRuntime) -> io::Result<()> {
     // the memory is never cleared between searches
     let mut work = [0u64; WORK_WORDS];
     let tally = try_all(&mut work);
-    println!(rt, "{} trellises compared with every path of theirs", TRELLISES)?;
-    println!(rt, "{} have no open path to an end, {} several of the least cost", tally.barred, tally.tied)?;
+    println!(
+        rt,
+        "{} trellises compared with every path of theirs",
+        TRELLISES
+    )?;
+    println!(
+        rt,
+        "{} have no open path to an end, {} several of the least cost",
+        tally.barred, tally.tied
+    )?;
     println!(rt, "{} paths found", tally.paths)?;
     println!(rt, "{} answers differ", tally.differed)
 }

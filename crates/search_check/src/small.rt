@@ -1,5 +1,5 @@
 ghost use Prim.Native.Nat.{ℕ, _+_, _*_, _/_, _%_, _<_, _≤_};
-ghost use Rattle.search_check.specs.Small.{count as counted, find as found, lead as leading, leads as leading-to, small as smallest, toll as tolled};
+ghost use Rattle.search_check.specs.Small.{count as counted, find as found, leads as leading-to, small as smallest};
 ghost use Rattle.search_check.specs.SmallLaws.{small-lawful};
 ghost use denote.Ref.{now};
 ghost use lib.Dec.{eqb};
@@ -110,17 +110,31 @@ pub impl Trellis for Small<'_> as SmallTrellis {
         let cell = self.cells[16 * stage + j];
         let to = (cell % 8) as usize;
         if cell < 128 && to < self.states && count(self.cells, stage, to, j) < 2 {
-            Branch { to, cost: (cell / 8 % 16) as u32 }
+            Branch {
+                to,
+                cost: (cell / 8 % 16) as u32,
+            }
         } else {
-            Branch { to: 0, cost: CLOSED_BRANCH }
+            Branch {
+                to: 0,
+                cost: CLOSED_BRANCH,
+            }
         }
     }
 
     fn entry(&self, stage: usize, state: usize, second: bool) -> Entry {
         let before = if second { 1 } else { 0 };
         match find(self.cells, stage, state, before, 2 * self.states) {
-            None => Entry { from: 0, bit: false, cost: CLOSED_ENTRY },
-            Some(j) => Entry { from: j / 2, bit: j % 2 == 1, cost: (self.cells[16 * stage + j] / 8 % 16) as u16 },
+            None => Entry {
+                from: 0,
+                bit: false,
+                cost: CLOSED_ENTRY,
+            },
+            Some(j) => Entry {
+                from: j / 2,
+                bit: j % 2 == 1,
+                cost: (self.cells[16 * stage + j] / 8 % 16) as u16,
+            },
         }
     }
 }

@@ -42,7 +42,11 @@ pub(crate) trait Lane: Copy {
 fn widen(x: u16) -> u32
     ensures { λ r. ⌜ r ≡ wide x ⌝ }
 {
-    if x < CLOSED_ENTRY { x as u32 } else { CLOSED_BRANCH }
+    if x < CLOSED_ENTRY {
+        x as u32
+    } else {
+        CLOSED_BRANCH
+    }
 }
 
 fn narrow_chunk(a: &[u16; 64], b: &[u16; 64], next: &mut [u16; 64], at: usize) -> u64

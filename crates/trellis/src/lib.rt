@@ -4,6 +4,7 @@ mod lane;
 mod searching;
 mod survivors;
 mod trellis;
+
 pub use searching::PATH_BITS;
 pub use searching::WORK_WORDS;
 pub use searching::search;

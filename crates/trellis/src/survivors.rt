@@ -24,7 +24,11 @@ fn lane_entry<T: Trellis>(trellis: &T, k: usize, t: usize, second: bool) -> Entr
     if t < trellis.states() {
         trellis.entry(k, t, second)
     } else {
-        Entry { from: 0, bit: false, cost: CLOSED_ENTRY }
+        Entry {
+            from: 0,
+            bit: false,
+            cost: CLOSED_ENTRY,
+        }
     }
 }
 
@@ -219,7 +223,11 @@ fn trace_back<T: Trellis>(trellis: &T, work: &[u64], end: usize, path: &mut [boo
 }
 
 // The search where the path is wanted: a word of survivors for each stage.
-pub(crate) fn search_path<T: Trellis>(trellis: &T, work: &mut [u64], path: &mut [bool]) -> Option<u32>
+pub(crate) fn search_path<T: Trellis>(
+    trellis: &T,
+    work: &mut [u64],
+    path: &mut [bool],
+) -> Option<u32>
     requires on { ⌜ model (now trellis) .wanted ≡ true ⌝ }
     requires room { ⌜ model (now trellis) .stages ≤ length (now work) ⌝ }
     requires long { ⌜ model (now trellis) .stages ≤ length (now path) ⌝ }

@@ -11,6 +11,6 @@ loop-i-holds c = (sym (count-none _ _ _), omega arith)
 pub loop-i-again : need.loop-i-again
 loop-i-again c =
     elim (c .if-leads .came) [
-      then-leads w ↦ count-step _ _ _ _ _ _ true (sym (c .leads .ensures) ∙ w .if-leads .taken) (w .n-is) (c .loop-i .inv .0) (c .loop-i .inv .1)
+      | then-leads w ↦ count-step _ _ _ _ _ _ true (sym (c .leads .ensures) ∙ w .if-leads .taken) (w .n-is) (c .loop-i .inv .0) (c .loop-i .inv .1)
       | else-leads w ↦ count-step _ _ _ _ _ _ false (sym (c .leads .ensures) ∙ w .if-leads .left) (w .n-is) (c .loop-i .inv .0) (c .loop-i .inv .1)
     ]

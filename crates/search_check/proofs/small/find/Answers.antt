@@ -11,6 +11,6 @@ loop-i-holds c = sym (find-none _ _ _ _)
 pub loop-i-again : need.loop-i-again
 loop-i-again c =
     elim (c .if-is-nth .came) [
-      then-is-nth w ↦ w .at-is ∙ sym (find-step _ _ _ _ _ true (sym (c .is-nth .ensures) ∙ w .if-is-nth .taken))
+      | then-is-nth w ↦ w .at-is ∙ sym (find-step _ _ _ _ _ true (sym (c .is-nth .ensures) ∙ w .if-is-nth .taken))
       | else-is-nth w ↦ w .at-is ∙ (c .loop-i .inv ∙ sym (find-step _ _ _ _ _ false (sym (c .is-nth .ensures) ∙ w .if-is-nth .left)))
     ]

@@ -5,7 +5,6 @@ use lib.ListN.{length}
 use native.Mathlib.Omega.{arith}
 use Rattle.paths.proofs.Finish.{reached-same, start-reached-at}
 use Rattle.paths.proofs.Values.{values-same, values-other}
-
 use Rattle.trellis.proofs.survivors.last_row.Needs as need
 
 pub index-lanes-start : need.index-lanes-start
