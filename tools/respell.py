@@ -67,6 +67,16 @@ def declared():
     return own - made, own & made
 
 
+# names that a file takes from the library
+def foreign(text):
+    found = set()
+    for module, names in re.findall(r"\buse ([\w.]+)\.\{([^}]*)\}", text):
+        crate = module.split(".")[1] if module.startswith("Rattle.") else ""
+        if not os.path.isdir(os.path.join("crates", crate)) or not crate:
+            found.update(n.strip() for n in names.split(","))
+    return found
+
+
 # the name at this place is that of a step of the code, as in c.step and w.step
 def step(text, at):
     return re.search(r"(?<![\w'.-])(c|w|l|goal)\.$", text[max(0, at - 8) : at]) is not None
@@ -88,7 +98,7 @@ def main():
             bad += 1
     word = re.compile(r"(?<![\w'-])([a-zA-Z][\w']*(?:-[\w']+)+|getD[\w'-]*|maskL[\w'-]*)(?![\w'-])")
     for path, text in texts.items():
-        here = {n for n in word.findall(text) if n in own}
+        here = {n for n in word.findall(text) if n in own} - foreign(text)
         for name in sorted(here):
             if re.search(r"(?<![\w'-])" + re.escape(snake(name)) + r"(?![\w'-])", text):
                 print(f"{path}: {snake(name)} stands already beside {name}")
@@ -98,7 +108,8 @@ def main():
     turned = 0
     for path, text in texts.items():
         answers = os.path.basename(path) in ("Answers.antt", "Invariants.antt", "Proof.antt")
-        new = word.sub(lambda m: snake(m.group(1)) if m.group(1) in own and not (answers and step(text, m.start())) else m.group(1), text)
+        theirs = foreign(text)
+        new = word.sub(lambda m: snake(m.group(1)) if m.group(1) in own - theirs and not (answers and step(text, m.start())) else m.group(1), text)
         if new != text:
             turned += 1
             with open(path, "w", encoding="utf-8") as f:

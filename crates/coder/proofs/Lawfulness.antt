@@ -1,6 +1,6 @@
 -- What holds of every burst sent.
 -- Assumes nothing.
-use Rattle.std.proofs.Common.{◌≡◌, ℕ, zero, suc, ◌+◌, ◌*◌, ◌/◌, ◌%◌, ◌<◌, ◌≤◌, Bool, true, false, cond, ltb, List, get_or, None, sym, refl, ap, ◌∙◌, subst, ap₂, add_zero, mod-eq_of_lt, arith}
+use Rattle.std.proofs.Common.{◌≡◌, ℕ, zero, suc, ◌+◌, ◌*◌, ◌/◌, ◌%◌, ◌<◌, ◌≤◌, Bool, true, false, cond, ltb, List, get_or, None, sym, refl, ap, ◌∙◌, subst, ap₂, add-zero, mod-eq_of_lt, arith}
 use native.Mathlib.Nat.{mul-add-div, mul-add-mod_self_left, div-eq_of_lt}
 use Rattle.words.specs.Words.{Bits, Bytes, part}
 use Rattle.standard.specs.declared.order.Request.{Request}
@@ -30,7 +30,7 @@ message_lt r d i = either (ltb i (capacity r.rate r.symbols))
 
 -- a place in a symbol
 pub in_symbol : (s b k : ℕ) → 0 < s → k < s → ((s * b + k) / s ≡ b) × ((s * b + k) % s ≡ k)
-in_symbol s b k p h = (mul-add-div p b k ∙ ap (λ (x : ℕ). b + x) (div-eq_of_lt h) ∙ add_zero b, mul-add-mod_self_left s b k ∙ mod-eq_of_lt h)
+in_symbol s b k p h = (mul-add-div p b k ∙ ap (λ (x : ℕ). b + x) (div-eq_of_lt h) ∙ add-zero b, mul-add-mod_self_left s b k ∙ mod-eq_of_lt h)
 
 module _ (r : Request) (d : List ℕ) (m : Modulation (profiled r).bits) where
   pub symbol_pos : 0 < symbol_bits r

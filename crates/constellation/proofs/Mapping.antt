@@ -1,6 +1,6 @@
 -- Bits to points: what is read, what the loop has written, and that points carry their bits.
 -- Assumes nothing.
-use Rattle.std.proofs.Common.{◌≡◌, ℕ, zero, suc, ◌+◌, ◌-◌, ◌*◌, ◌^◌, ◌<◌, ◌≤◌, Bool, true, false, cond, eqb, List, length, get_or, set, ℤ, pos, nat_abs, sym, refl, ap, ◌∙◌, subst, ap₂, inl, inr, add_zero, arith, get_or-set_other, get_or-set_same}
+use Rattle.std.proofs.Common.{◌≡◌, ℕ, zero, suc, ◌+◌, ◌-◌, ◌*◌, ◌^◌, ◌<◌, ◌≤◌, Bool, true, false, cond, eqb, List, length, get_or, set, ℤ, pos, nat_abs, sym, refl, ap, ◌∙◌, subst, ap₂, inl, inr, add-zero, arith, get_or-set_other, get_or-set_same}
 use native.Mathlib.Decide.{dec_lt, ℕ_discrete}
 use mir.Val.{bool_byte}
 use Rattle.words.specs.Words.{Bits, flags, value, digit}
@@ -47,7 +47,7 @@ byte false = refl
 
 module _ (sent : List Bool) (at b : ℕ) where
   first : bool_byte (flags sent at) ≡ digit (flags sent (at + 0))
-  first = byte (flags sent at) ∙ ap (λ (n : ℕ). digit (flags sent n)) (sym (add_zero at))
+  first = byte (flags sent at) ∙ ap (λ (n : ℕ). digit (flags sent n)) (sym (add-zero at))
 
   pub reads_1 : b ≡ 1 → Read b (λ u. flags sent (at + u)) (bool_byte (flags sent at))
   unfolding value

@@ -6,7 +6,7 @@ use mathlib.Core.Logic.{◌≢◌, ◌⊎◌, ⊎_elim}
 use mathlib.Core.List.{List}
 use Prim.Native.Nat.{ℕ, zero, suc, ◌+◌, ◌-◌, ◌*◌, ◌/◌, ◌%◌, ◌<◌, ◌≤◌}
 use native.Mathlib.Omega.{arith}
-use native.Mathlib.Nat.{add_zero, mul_comm, mul-suc, mul-le-mul_left, add_mul, one_mul, eq-or-lt_of_le}
+use native.Mathlib.Nat.{add-zero, mul_comm, mul-suc, mul-le-mul_left, add-mul, one-mul, eq-or-lt_of_le}
 use lib.ListN.{get_or, length, set, take}
 use lib.Seq.{get_or-set_same, get_or-set_other, get_or-take}
 use lib.Arith.{digits_mod}
@@ -31,7 +31,7 @@ stride : (s n q : ℕ) → q < n → s * q + s ≤ s * n
 stride s n q h = let m : suc q ≤ n = omega arith in omega (arith, mul-suc s q, mul-le-mul_left s m)
 
 pub among : (p n q : ℕ) → q < n → Among p n q
-among p n q h = record { inputs = stride p n q h; outputs = stride (p + 1) n q h; more = add_mul p 1 q ∙ ap (λ (z : ℕ). p * q + z) (one_mul q) }
+among p n q h = record { inputs = stride p n q h; outputs = stride (p + 1) n q h; more = add-mul p 1 q ∙ ap (λ (z : ℕ). p * q + z) (one-mul q) }
 
 -- the first n periods have f at bit i, and no other place is changed
 pub record Spread (p i n : ℕ) (f : ℕ → Bool) (old new : List Bool) : Type 0 where
@@ -98,8 +98,8 @@ begins FiveSixths = refl
 
 -- an entry keeps its bit of the pattern
 at_entry : (u a b : Bits) (p k n i : ℕ) → ((t : ℕ) → t < n → a t ≡ x u t) → ((t : ℕ) → t < n → b t ≡ y u t) → 0 < p → k + p ≤ n → i ≤ p → i < 6 → kept a b k (get_or (punctured FiveSixths) i X1) ≡ get_or (pattern u k) i false
-at_entry u a b p k n zero f g o l m e = f (k + 0) (omega arith) ∙ ap (x u) (add_zero k)
-at_entry u a b p k n (suc zero) f g o l m e = g (k + 0) (omega arith) ∙ ap (y u) (add_zero k)
+at_entry u a b p k n zero f g o l m e = f (k + 0) (omega arith) ∙ ap (x u) (add-zero k)
+at_entry u a b p k n (suc zero) f g o l m e = g (k + 0) (omega arith) ∙ ap (y u) (add-zero k)
 at_entry u a b p k n (suc (suc zero)) f g o l m e = g (k + 1) (omega arith)
 at_entry u a b p k n (suc (suc (suc zero))) f g o l m e = f (k + 2) (omega arith)
 at_entry u a b p k n (suc (suc (suc (suc zero)))) f g o l m e = g (k + 3) (omega arith)

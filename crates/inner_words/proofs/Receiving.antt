@@ -1,7 +1,7 @@
 -- The receive trellis: its open paths, its ties, and the nearest word.
 -- Assumes nothing.
 use Rattle.std.proofs.Common.{◌≡◌, ℕ, zero, suc, ◌+◌, ◌-◌, ◌*◌, ◌/◌, ◌%◌, ◌^◌, ◌<◌, ◌≤◌, Bool, true, false, eqb, Some, sym, refl, ap, ◌∙◌, subst, ⊎_elim, eq-or-lt_of_le, arith}
-use Rattle.std.proofs.lemmas.Bool.{cases_lt, ltb_true, lt-ltb}
+use Rattle.std.proofs.lemmas.Bool.{cases_lt, ltb-true, lt-ltb}
 use Rattle.words.specs.Words.{Bits, digit}
 use Rattle.words.proofs.Bridge.{digit_lt}
 use Rattle.inner_code.specs.Inner.{earlier, coded, Rated}
@@ -26,7 +26,7 @@ may n k true h = ⊎_elim (λ l. lt-ltb (k + 8) n l) (λ l. let z : ◌≡◌ {A
 
 must : (n k : ℕ) (b : Bool) → allowed n k b ≡ true → n ≤ k + 8 → b ≡ false
 must n k false e l = refl
-must n k true e l = let h = ltb_true (k + 8) n e in absurd (omega arith)
+must n k true e l = let h = ltb-true (k + 8) n e in absurd (omega arith)
 
 -- ---- paths
 -- a word whose tail is 0 so far is open

@@ -4,7 +4,7 @@ use mathlib.Core.Path.{◌≡◌, refl, sym, ◌∙◌, ap, ap₂, subst}
 use mathlib.Core.Logic.{inl, inr}
 use Prim.Native.Nat.{ℕ, zero, suc, ◌+◌, ◌-◌, ◌*◌, ◌/◌, ◌%◌, ◌<◌, ◌≤◌}
 use native.Mathlib.Omega.{arith}
-use native.Mathlib.Nat.{mul-add-div, div-eq_of_lt, mod-lt, div-add-mod, add_zero, mul_comm, mul_assoc, mul-div-mul_left, mul-div_right, div-lt_iff_lt-mul, mul-le-mul_left}
+use native.Mathlib.Nat.{mul-add-div, div-eq_of_lt, mod-lt, div-add-mod, add-zero, mul_comm, mul_assoc, mul-div-mul_left, mul-div_right, div-lt_iff_lt-mul, mul-le-mul_left}
 use lib.Dec.{lit<}
 use Rattle.standard.specs.Profiles.{Modulation}
 use Rattle.interleaver.specs.Interleaver.{size, turn, spread, turned, place, unturned, gathered, source}
@@ -53,7 +53,7 @@ gathered_is g c r q h =
     ∙ ap (λ (x : ℕ). 12 * (g * c * r + q) - (x - 1) * r) (size_rows g c) ∙ left (g * c) h
   where
     in_row : (g * c * r + q) / (g * c) ≡ r
-    in_row = mul-add-div (let p : 0 < g * c = omega arith in p) r q ∙ ap (λ (y : ℕ). r + y) (div-eq_of_lt h) ∙ add_zero r
+    in_row = mul-add-div (let p : 0 < g * c = omega arith in p) r q ∙ ap (λ (y : ℕ). r + y) (div-eq_of_lt h) ∙ add-zero r
 
     left : (w : ℕ) → q < w → 12 * (w * r + q) - (12 * w - 1) * r ≡ 12 * q + r
     left zero l = absurd (omega arith)
@@ -190,6 +190,6 @@ module _ (g c : ℕ) (p : Parts c) (hg : 0 < g) where
   place_at s k e h =
       ap (turned g c) (spread_is g c k) ∙ turned_is g c (g * c * (k % 12) + k / 12)
       ∙ ap (λ (x : ℕ). turn c * ((g * c * (k % 12) + k / 12) / turn c) + (g * c * (k % 12) + k / 12 + size g c - x) % turn c)
-      (mul-add-div row_pos (k % 12) (k / 12) ∙ ap (λ (y : ℕ). k % 12 + y) (div-eq_of_lt (column k h)) ∙ add_zero (k % 12))
+      (mul-add-div row_pos (k % 12) (k / 12) ∙ ap (λ (y : ℕ). k % 12 + y) (div-eq_of_lt (column k h)) ∙ add-zero (k % 12))
       ∙ ap (λ (x : ℕ). x * ((g * c * (k % 12) + k / 12) / x) + (g * c * (k % 12) + k / 12 + size g c - k % 12) % x) e
       ∙ ap (λ (x : ℕ). x + (g * c * (k % 12) + k / 12 + size g c - k % 12) % s) (mul_comm s ((g * c * (k % 12) + k / 12) / s))

@@ -1,6 +1,6 @@
 -- The blocks of a burst, byte by byte and as outer words.
 -- Assumes nothing.
-use Rattle.std.proofs.Common.{◌≡◌, ℕ, zero, suc, ◌+◌, ◌-◌, ◌*◌, ◌/◌, ◌%◌, ◌<◌, ◌≤◌, List, [], ◌∷◌, ◌++◌, length, get_or, take, sym, refl, ap, ◌∙◌, subst, ap₂, add_zero, mod-eq_of_lt, mul_comm, div-lt_iff_lt-mul, mul-le-mul_left, arith}
+use Rattle.std.proofs.Common.{◌≡◌, ℕ, zero, suc, ◌+◌, ◌-◌, ◌*◌, ◌/◌, ◌%◌, ◌<◌, ◌≤◌, List, [], ◌∷◌, ◌++◌, length, get_or, take, sym, refl, ap, ◌∙◌, subst, ap₂, add-zero, mod-eq_of_lt, mul_comm, div-lt_iff_lt-mul, mul-le-mul_left, arith}
 use native.Mathlib.Decide.{dec_le}
 use native.Mathlib.Nat.{mul-add-div, mul-add-mod_self_left, div-eq_of_lt}
 use Rattle.std.proofs.lemmas.List.{length-append, length-take-le, get_or_append_left, get_or-append_right, get_or-take, ext_get_or}
@@ -83,7 +83,7 @@ module _ (size limit : ℕ) (some : 0 < size) where
   unfolding blocks
   blocks_at w b t h =
       ap₂ (λ (q r : ℕ). get_or (block_of limit (message_of size q w)) r 0)
-      (mul-add-div {m = N} (omega arith) b t ∙ ap (λ (m : ℕ). b + m) (div-eq_of_lt h) ∙ add_zero b)
+      (mul-add-div {m = N} (omega arith) b t ∙ ap (λ (m : ℕ). b + m) (div-eq_of_lt h) ∙ add-zero b)
       (mul-add-mod_self_left N b t ∙ mod-eq_of_lt h)
 
   -- a block as a list

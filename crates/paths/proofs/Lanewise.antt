@@ -1,6 +1,6 @@
 -- Sixteen lanes of two rows, compared at once.
 -- Assumes nothing.
-use Rattle.std.proofs.Common.{◌≡◌, ℕ, zero, suc, ◌+◌, ◌-◌, ◌*◌, ◌/◌, ◌%◌, ◌^◌, ◌<◌, ◌≤◌, min, Bool, true, false, cond, ltb, List, [], ◌∷◌, ◌++◌, map, length, get_or, take, drop, replicate, sym, refl, ap, ◌∙◌, subst, ⊎_elim, lt_of_lt_of_le, mod-eq_of_lt, mul_assoc, mul_comm, mul_one, arith, length-append, pow_mono, w16, w32, le-ltb, lt-ltb}
+use Rattle.std.proofs.Common.{◌≡◌, ℕ, zero, suc, ◌+◌, ◌-◌, ◌*◌, ◌/◌, ◌%◌, ◌^◌, ◌<◌, ◌≤◌, min, Bool, true, false, cond, ltb, List, [], ◌∷◌, ◌++◌, map, length, get_or, take, drop, replicate, sym, refl, ap, ◌∙◌, subst, ⊎_elim, lt_of_lt_of_le, mod-eq_of_lt, mul_assoc, mul_comm, mul-one, arith, length-append, pow_mono, w16, w32, le-ltb, lt-ltb}
 use native.Mathlib.Nat.{pow-succ'}
 use borrow.Rule.Slice.PartMut.{put_mid, mid_of, post_of, mid_len}
 use lib.Bits.{bit_or, or_shifted_r}
@@ -149,7 +149,7 @@ module _ (a b old : List ℕ) (at : ℕ) (la : length a ≡ 64) (lb : length b �
 
 -- ---- the masks, one after the other
 mask_l_append : (xs ys : List Bool) → mask_l (xs ++ ys) ≡ mask_l ys * 2 ^ length xs + mask_l xs
-mask_l_append [] ys = sym (mul_one (mask_l ys)) ∙ omega arith
+mask_l_append [] ys = sym (mul-one (mask_l ys)) ∙ omega arith
 mask_l_append (x ∷ xs) ys =
     let e = mask_l_append xs ys in
     let p : 2 ^ suc (length xs) ≡ 2 * 2 ^ length xs = pow-succ' 2 (length xs) in

@@ -1,6 +1,6 @@
 -- The trellis of a shift register keeps the laws.
 -- Assumes nothing.
-use Rattle.std.proofs.Common.{◌≡◌, ℕ, zero, suc, ◌+◌, ◌*◌, ◌/◌, ◌%◌, ◌<◌, ◌≤◌, Bool, true, false, cond, eqb, ltb, ◌⊎◌, Some, None, Option, sym, refl, ap, ◌∙◌, subst, inl, inr, ⊎_elim, arith, ltb-false, ltb_true, lt-ltb, eq-eqb, ne_eqb, eqb-true}
+use Rattle.std.proofs.Common.{◌≡◌, ℕ, zero, suc, ◌+◌, ◌*◌, ◌/◌, ◌%◌, ◌<◌, ◌≤◌, Bool, true, false, cond, eqb, ltb, ◌⊎◌, Some, None, Option, sym, refl, ap, ◌∙◌, subst, inl, inr, ⊎_elim, arith, ltb-false, ltb-true, lt-ltb, eq-eqb, ne_eqb, eqb-true}
 use borrow.Author.Tests.{eqb-false}
 use Rattle.std.proofs.lemmas.Bool.{cases_lt}
 use Rattle.paths.specs.Model.{Model, Lawful, Path, after}
@@ -36,14 +36,14 @@ pub register_leads : (k s : ℕ) (b : Bool) (cost : ℕ → ℕ → ℕ) (to pay
 register_leads k s b cost to pay e f g = by (ltb (cost k (2 * s + digit b)) 256) refl
   where
     by : (o : Bool) → ltb (cost k (2 * s + digit b)) 256 ≡ o → Leads 64 (open_if o ((2 * s + digit b) % 64, cost k (2 * s + digit b))) to pay
-    by true q = (e, f (ltb_true _ _ q))
+    by true q = (e, f (ltb-true _ _ q))
     by false q = (omega arith, g (ltb-false _ _ q))
 
 pub register_enters : (k t : ℕ) (i : Bool) (cost : ℕ → ℕ → ℕ) (from : ℕ) (bit : Bool) (pay : ℕ) → t < 64 → from ≡ t / 2 + 32 * digit i → bit ≡ eqb (t % 2) 1 → (cost k (t + 64 * digit i) < 256 → pay ≡ cost k (t + 64 * digit i)) → (256 ≤ cost k (t + 64 * digit i) → pay ≡ 65535) → Enters 64 (open_if (ltb (cost k (t + 64 * digit i)) 256) (t / 2 + 32 * digit i, eqb (t % 2) 1, cost k (t + 64 * digit i))) from bit pay
 register_enters k t i cost from bit pay low e b f g = by (ltb (cost k (t + 64 * digit i)) 256) refl
   where
     by : (o : Bool) → ltb (cost k (t + 64 * digit i)) 256 ≡ o → Enters 64 (open_if o (t / 2 + 32 * digit i, eqb (t % 2) 1, cost k (t + 64 * digit i))) from bit pay
-    by true q = (e, b, f (ltb_true _ _ q))
+    by true q = (e, b, f (ltb-true _ _ q))
     by false q = let d = digit_low i in (omega arith, g (ltb-false _ _ q))
 
 -- ---- its laws
@@ -56,7 +56,7 @@ module _ (n : ℕ) (ends : ℕ → Bool) (narrow : Bool) (cost : ℕ → ℕ →
       let o = opened _ _ (t, c) e in
       let et : (2 * s + digit b) % 64 ≡ t = ap (λ z. z.0) o.1 in
       let ec : cost k (2 * s + digit b) ≡ c = ap (λ z. z.1) o.1 in
-      let lt = ltb_true _ _ o.0 in
+      let lt = ltb-true _ _ o.0 in
       (omega arith, omega arith)
 
   sound : (k t : ℕ) (i : Bool) (s : ℕ) (b : Bool) (c : ℕ) → t < 64 → model.entry k t i ≡ Some (s, b, c) → (s < 64) × (model.branch k s b ≡ Some (t, c))
@@ -119,6 +119,6 @@ module _ (n : ℕ) (ends : ℕ → Bool) (narrow : Bool) (cost : ℕ → ℕ →
       spent on k s b t c early e =
           let o = opened _ _ (t, c) e in
           let ec : cost k (2 * s + digit b) ≡ c = ap (λ z. z.1) o.1 in
-          let lt = ltb_true _ _ o.0 in
+          let lt = ltb-true _ _ o.0 in
           let h = step on k (2 * s + digit b) early lt in
           omega arith

@@ -1,6 +1,6 @@
 -- One stage of the search keeps the rows best.
 -- Assumes nothing.
-use Rattle.std.proofs.Common.{◌≡◌, ℕ, zero, suc, ◌+◌, ◌*◌, ◌/◌, ◌%◌, ◌^◌, ◌<◌, ◌≤◌, min, Bool, true, false, cond, eqb, ltb, ◌⊎◌, List, get_or, Some, None, Option, sym, refl, ap, ◌∙◌, subst, inl, inr, ⊎_elim, arith, ltb-false, ltb_true, le-ltb, lt-ltb}
+use Rattle.std.proofs.Common.{◌≡◌, ℕ, zero, suc, ◌+◌, ◌*◌, ◌/◌, ◌%◌, ◌^◌, ◌<◌, ◌≤◌, min, Bool, true, false, cond, eqb, ltb, ◌⊎◌, List, get_or, Some, None, Option, sym, refl, ap, ◌∙◌, subst, inl, inr, ⊎_elim, arith, ltb-false, ltb-true, le-ltb, lt-ltb}
 use Rattle.std.proofs.lemmas.Bool.{cases_lt}
 use Rattle.paths.specs.Model.{Model, Lawful, Path, after}
 use Rattle.paths.specs.Ties.{state_of, First}
@@ -144,7 +144,7 @@ module _ (m : Model) (law : Lawful m) (on : m.wanted ≡ true) (k : ℕ) (early 
       p x.0 (omega arith) (omega arith)
 
   open_by : (t : ℕ) (i : Bool) (x : ℕ) → x ≡ min (min (via row (into m k t false)) (via row (into m k t true))) 536870912 → ltb (via row (into m k t true)) (via row (into m k t false)) ≡ i → x < 536870912 → via row (into m k t i) < 536870912
-  open_by t true x is e lt = let h = ltb_true _ _ e in omega arith
+  open_by t true x is e lt = let h = ltb-true _ _ e in omega arith
   open_by t false x is e lt = let h = ltb-false _ _ e in omega arith
 
   pub open_step : (next : List ℕ) (word : ℕ) → Relaxed m k row next word → (P : ℕ → Type 0) → ((s : ℕ) → s < 64 → get_or row s 0 < 536870912 → P s) → (t : ℕ) → t < 64 → get_or next t 0 < 536870912 → Onto (into m k t (chosen word t)) P

@@ -5,7 +5,7 @@ use mathlib.Core.Bool.{Bool, true, false}
 use mathlib.Core.List.{List}
 use Prim.Native.Nat.{ℕ, zero, suc, ◌+◌, ◌-◌, ◌*◌, ◌/◌, ◌%◌, ◌^◌, ◌<◌, ◌≤◌}
 use native.Mathlib.Omega.{arith}
-use native.Mathlib.Nat.{add_zero, add-suc, div-one}
+use native.Mathlib.Nat.{add-zero, add-suc, div-one}
 use native.Mathlib.Decide.{ℕ_discrete}
 use lib.Dec.{eqb}
 use lib.Bits.{bit_xor, xor_lt}
@@ -40,7 +40,7 @@ after_lt (suc k) r h = pushed_lt (after k r) (after_lt k r h)
 
 pub after_add : (j k r : ℕ) → after j (after k r) ≡ after (k + j) r
 unfolding after
-after_add zero k r = ap (λ (n : ℕ). after n r) (sym (add_zero k))
+after_add zero k r = ap (λ (n : ℕ). after n r) (sym (add-zero k))
 after_add (suc j) k r = ap pushed (after_add j k r) ∙ ap (λ (n : ℕ). after n r) (sym (add-suc k j))
 
 -- a byte is scrambled by the next eight new bits

@@ -1,7 +1,7 @@
 -- The small trellis keeps the laws.
 -- Assumes nothing.
 use Rattle.std.specs.Prelude.{◌≡◌, ℕ, zero, suc, ◌+◌, ◌*◌, ◌/◌, ◌%◌, ◌<◌, ◌≤◌, Bool, true, false, cond, ◌&&◌, ◌⊎◌, List, Some, None, Option, ◌==◌, refl}
-use Rattle.std.proofs.Common.{sym, ap, subst, ◌∙◌, inl, inr, ⊎_elim, arith, eq-or-lt_of_le, ltb_true, lt-ltb, eqb-true, eq-eqb, ne_eqb}
+use Rattle.std.proofs.Common.{sym, ap, subst, ◌∙◌, inl, inr, ⊎_elim, arith, eq-or-lt_of_le, ltb-true, lt-ltb, eqb-true, eq-eqb, ne_eqb}
 use Rattle.std.proofs.lemmas.Bool.{cases_lt, cases_order, eqb-false}
 use Rattle.paths.specs.Model.{Model, Lawful}
 use Rattle.paths.specs.Registers.{digit, open_if}
@@ -108,8 +108,8 @@ module _ (stages n start ends : ℕ) (cells : List ℕ) (wanted narrow : Bool) (
       let b = both_are _ _ a.1 in
       record {
         there = are_both _ _ a.0 (eq-eqb _ _ et);
-        low = subst (λ x. x < n) et (ltb_true _ _ b.0);
-        under = subst (λ x. count cells k x j < 2) et (ltb_true _ _ b.1);
+        low = subst (λ x. x < n) et (ltb-true _ _ b.0);
+        under = subst (λ x. count cells k x j < 2) et (ltb-true _ _ b.1);
         cost = ec;
       }
 

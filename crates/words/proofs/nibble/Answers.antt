@@ -1,7 +1,7 @@
 use mathlib.Core.Path.{◌≡◌, ◌∙◌, sym, ap}
 use Prim.Native.Nat.{ℕ, ◌+◌, ◌*◌, ◌<◌}
 use native.Mathlib.Omega.{arith}
-use native.Mathlib.Nat.{add_zero}
+use native.Mathlib.Nat.{add-zero}
 use lib.ListN.{get_or}
 use mathlib.Core.Bool.{false}
 use Rattle.words.specs.Words.{flags, digit, value}
@@ -11,5 +11,5 @@ use Rattle.words.proofs.nibble.Goals as goal
 pub returns : goal.returns
 unfolding value
 returns c =
-    let z : digit (get_or c.args.bits.now (c.args.at + 0) false) ≡ digit (get_or c.args.bits.now c.args.at false) = ap (λ (k : ℕ). digit (get_or c.args.bits.now k false)) (add_zero c.args.at) in
+    let z : digit (get_or c.args.bits.now (c.args.at + 0) false) ≡ digit (get_or c.args.bits.now c.args.at false) = ap (λ (k : ℕ). digit (get_or c.args.bits.now k false)) (add-zero c.args.at) in
     record { value = omega (arith, c.digit.ensures.value, c.digit-2.ensures.value, c.digit-3.ensures.value, c.digit-4.ensures.value, z); below = omega arith }
