@@ -1,4 +1,5 @@
 //! The sending chain: from the data of a request to the points of its burst.
+#![tactic(auto)]
 mod bits;
 mod bytes;
 mod encoding;

@@ -1,4 +1,5 @@
 //! The outer corrector: it turns a block into the only outer word within the limit, or refuses it.
+#![tactic(auto)]
 mod errors;
 mod locator;
 mod syndromes;

@@ -1,4 +1,5 @@
 //! The receiving chain: from the points of a burst to its data.
+#![tactic(auto)]
 mod blocks;
 mod decoding;
 mod hearing;

@@ -1,4 +1,6 @@
 //! Powers, logarithms, products and inverses of bytes in the field of 256 elements. The sum of two bytes is `a ^ b`.
+#![tactic(auto)]
+
 ghost use Rattle.std.specs.Prelude.{◌≡◌, ◌<◌};
 ghost use Rattle.field.specs.Field.{◌⊗◌, gexp};
 

@@ -1,4 +1,6 @@
 //! Trellises as models: their paths, the tie rule, what a search finds, and the theory of the search.
+#![tactic(auto)]
+
 ghost use Rattle.std.specs.Prelude.{◌≡◌, ℕ, ◌<◌, Bool, ◌⊎◌, List, length, Option};
 ghost use Rattle.paths.specs.Answers.{Found};
 ghost use Rattle.paths.specs.Model.{Model, Path};

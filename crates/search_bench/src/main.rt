@@ -1,4 +1,5 @@
 //! Times the search, where a word is given.
+#![tactic(auto)]
 mod counted;
 mod heard;
 mod tables;

@@ -1,4 +1,5 @@
 //! Compares the search with every path of small trellises.
+#![tactic(auto)]
 ghost use Rattle.std.specs.Prelude.{◌<◌, ◌≤◌};
 
 mod compare;

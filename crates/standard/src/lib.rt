@@ -1,4 +1,6 @@
 //! What the standard fixes for every burst: requests and accepted orders, the seven profiles, points, refusals.
+#![tactic(auto)]
+
 mod accept;
 pub mod order;
 pub mod point;

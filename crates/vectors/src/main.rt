@@ -1,5 +1,6 @@
 //! The standard's whole-band example, step by step, and the refusals around it. The file stdout holds the published
 //! values.
+#![tactic(auto)]
 
 mod example;
 mod refusals;

@@ -1,4 +1,6 @@
 //! Bits and bytes by position, highest bit first: definitions that every step of the chains shares, and their laws.
+#![tactic(auto)]
+
 ghost use Rattle.std.specs.Prelude.{ℕ, ◌+◌, ◌*◌, ◌<◌, ◌≤◌, length, ◌≡◌};
 ghost use Rattle.words.specs.Words.{Bits, Bytes, bits, bytes, digit as digited, flags, value, word};
 
