@@ -85,8 +85,8 @@ xtime_zero = refl
 -- ---- the product is linear in its first factor
 pick_add : (a b v : ℕ) → v < 2 → (a ⊕ b) * v ≡ (a * v) ⊕ (b * v)
 unfolding ◌⊕◌
-pick_add a b zero h = simp (native.Mathlib.Nat.mul_zero)
-pick_add a b (suc zero) h = simp (native.Mathlib.Nat.mul_one)
+pick_add a b zero h = simp (native.Mathlib.Nat.mul-zero)
+pick_add a b (suc zero) h = simp (native.Mathlib.Nat.mul-one)
 pick_add a b (suc (suc v)) h = absurd (omega arith)
 
 multiples_add : (n a b c : ℕ) → multiples n (a ⊕ b) c ≡ multiples n a c ⊕ multiples n b c
@@ -98,8 +98,8 @@ multiples_add (suc n) a b c =
     ∙ add_swap (a * (c % 2)) (b * (c % 2)) (multiples n (xtime a) (c / 2)) (multiples n (xtime b) (c / 2))
 
 pick_xtime : (a v : ℕ) → v < 2 → xtime a * v ≡ xtime (a * v)
-pick_xtime a zero h = simp (native.Mathlib.Nat.mul_zero) (sym xtime_zero)
-pick_xtime a (suc zero) h = simp (native.Mathlib.Nat.mul_one)
+pick_xtime a zero h = simp (native.Mathlib.Nat.mul-zero) (sym xtime_zero)
+pick_xtime a (suc zero) h = simp (native.Mathlib.Nat.mul-one)
 pick_xtime a (suc (suc v)) h = absurd (omega arith)
 
 multiples_xtime : (n a c : ℕ) → multiples n (xtime a) c ≡ xtime (multiples n a c)
@@ -120,8 +120,8 @@ multiples_lt zero a c h = omega arith
 multiples_lt (suc n) a c h = xor_lt 8 (a * (c % 2)) (multiples n (xtime a) (c / 2)) (pick_lt (c % 2) (bit_lt c)) (multiples_lt n (xtime a) (c / 2) (xtime_lt a))
   where
     pick_lt : (v : ℕ) → v < 2 → a * v < 256
-    pick_lt zero h' = simp (native.Mathlib.Nat.mul_zero) (omega arith)
-    pick_lt (suc zero) h' = simp (native.Mathlib.Nat.mul_one) h
+    pick_lt zero h' = simp (native.Mathlib.Nat.mul-zero) (omega arith)
+    pick_lt (suc zero) h' = simp (native.Mathlib.Nat.mul-one) h
     pick_lt (suc (suc v)) h' = absurd (omega arith)
 
 mod_add : (a b : ℕ) → (a ⊕ b) % 256 ≡ (a % 256) ⊕ (b % 256)
@@ -171,7 +171,7 @@ exp_255 = refl
 -- ---- every byte but 0 is a power of 02
 xtimes_add : (j k a : ℕ) → xtimes j (xtimes k a) ≡ xtimes (j + k) a
 unfolding xtimes
-xtimes_add zero k a = rw (native.Mathlib.Nat.zero_add)
+xtimes_add zero k a = rw (native.Mathlib.Nat.zero-add)
 xtimes_add (suc j) k a = ap xtime (xtimes_add j k a) ∙ sym (ap (λ (n : ℕ). xtimes n a) (native.Mathlib.Nat.suc-add j k))
 
 pub exp_lt : (k : ℕ) → gexp k < 256
@@ -194,12 +194,12 @@ is_power (suc x) h = inr (logarithm (suc x), sym (exp_log x (omega arith)))
 zero_multiples : (n c : ℕ) → multiples n 0 c ≡ 0
 unfolding multiples
 zero_multiples zero c = refl
-zero_multiples (suc n) c = simp (native.Mathlib.Nat.zero_mul, xtime_zero, zero_multiples n (c / 2))
+zero_multiples (suc n) c = simp (native.Mathlib.Nat.zero-mul, xtime_zero, zero_multiples n (c / 2))
 
 multiples_zero : (n a : ℕ) → multiples n a 0 ≡ 0
 unfolding multiples
 multiples_zero zero a = refl
-multiples_zero (suc n) a = simp (native.Mathlib.Nat.mul_zero, multiples_zero n (xtime a))
+multiples_zero (suc n) a = simp (native.Mathlib.Nat.mul-zero, multiples_zero n (xtime a))
 
 comm_bytes : (x y : ℕ) → Power x → Power y → multiples 8 x y ≡ multiples 8 y x
 unfolding Power

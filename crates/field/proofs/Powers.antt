@@ -28,7 +28,7 @@ pow_zero a = refl
 
 pub pow_add : (a j k : ℕ) → gpow a (j + k) ≡ gpow a j ⊗ gpow a k
 unfolding gpow
-pow_add a zero k = ap (gpow a) (N.zero_add k) ∙ sym (one_mul (gpow a k) (pow_lt a k))
+pow_add a zero k = ap (gpow a) (N.zero-add k) ∙ sym (one_mul (gpow a k) (pow_lt a k))
 pow_add a (suc j) k = ap (gpow a) (N.suc-add j k) ∙ ap (λ (x : ℕ). a ⊗ x) (pow_add a j k) ∙ sym (mul_assoc a (gpow a j) (gpow a k))
 
 pub exp_zero : gexp 0 ≡ 1
@@ -37,7 +37,7 @@ exp_zero = refl
 
 pub pow_exp : (i k : ℕ) → gpow (gexp i) k ≡ gexp (i * k)
 unfolding gpow
-pow_exp i zero = sym (ap gexp (N.mul_zero i) ∙ exp_zero)
+pow_exp i zero = sym (ap gexp (N.mul-zero i) ∙ exp_zero)
 pow_exp i (suc k) =
     ap (λ (x : ℕ). gexp i ⊗ x) (pow_exp i k) ∙ exp_mul i (i * k) ∙ ap gexp (N.add_comm i (i * k) ∙ sym (N.mul-suc i k))
 

@@ -4,4 +4,4 @@ use Rattle.standard.proofs.Fits.{profiles_fit}
 use Rattle.standard.proofs.order.Order.profile.Goals as goal
 
 pub returns : goal.returns
-returns c = record { value = c.profile-of.ensures; fits = subst Fitting (sym c.profile-of.ensures) (profiles_fit c.args.self.rate (search rules)) }
+returns c = record { value = c.profile_of.ensures; fits = subst Fitting (sym c.profile_of.ensures) (profiles_fit c.args.self.rate (search rules)) }
