@@ -1,13 +1,13 @@
 -- Points to bits: what each loop has written, and that points are heard in one way.
 -- Assumes nothing.
-use Rattle.std.proofs.Common.{◌≡◌, ℕ, suc, ◌+◌, ◌-◌, ◌*◌, ◌/◌, ◌%◌, ◌^◌, ◌<◌, ◌≤◌, Bool, false, eqb, ◌≢◌, ◌⊎◌, List, length, get_or, set, ℤ, sym, refl, ap, ◌∙◌, subst, inl, inr, mod-lt, mul_comm, div-lt_iff_lt-mul, mul-le-mul_left, mul-suc, arith, get_or-set_other, get_or-set_same}
+use Rattle.std.proofs.Common.{◌≡◌, ℕ, ◌+◌, ◌-◌, ◌*◌, ◌/◌, ◌%◌, ◌^◌, ◌<◌, ◌≤◌, Bool, false, eqb, ◌≢◌, ◌⊎◌, List, length, get_or, set, ℤ, sym, ap, ◌∙◌, subst, inl, inr, mod-lt, mul_comm, div-lt_iff_lt-mul, mul-le-mul_left, mul-suc, arith, get_or-set_other, get_or-set_same}
 use native.Mathlib.Decide.{dec_lt, ℕ_discrete}
 use native.Mathlib.Nat.{div-add-mod}
 use Rattle.words.specs.Words.{Bits, flags, value}
 use Rattle.words.proofs.Bridge.{value_same, value_of, value_below}
 use Rattle.standard.specs.Profiles.{Modulation}
 use Rattle.standard.specs.declared.point.Point.{Point}
-use Rattle.constellation.specs.Constellation.{Width, width, level, in_phase, quadrature, point, origin}
+use Rattle.constellation.specs.Constellation.{width, in_phase, quadrature, point, origin}
 use Rattle.constellation.specs.Decisions.{Decided, Heard, Decisions}
 use Rattle.constellation.specs.Steps.{Kept, Written, AxisHeard, PointHeard}
 use Rattle.constellation.proofs.Mapping.{width_of, value_one, q_is}

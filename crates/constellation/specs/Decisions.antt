@@ -1,6 +1,6 @@
 -- Points back to bits: each axis is decided to the bits of the nearest level.
 -- Assumes nothing.
-use Rattle.std.specs.Prelude.{◌≡◌, ℕ, ◌+◌, ◌*◌, ◌^◌, ◌<◌, ◌≤◌, List, get_or, ℤ, pos, negsuc, ◌-ℤ◌, ◌≤ℤ◌, slice_index_or, unsigned_abs}
+use Rattle.std.specs.Prelude.{◌≡◌, ℕ, ◌*◌, ◌^◌, ◌<◌, ◌≤◌, List, get_or, ℤ, pos, negsuc, ◌-ℤ◌, ◌≤ℤ◌, slice_index_or, unsigned_abs}
 use Rattle.words.specs.Words.{Bits}
 use Rattle.standard.specs.Profiles.{Modulation}
 use Rattle.standard.specs.declared.point.Point.{Point}

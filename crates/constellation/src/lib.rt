@@ -1,5 +1,6 @@
 //! Bits to the points of carriers, and points decided to bits, `c` bits to a carrier.
 #![tactic(auto)]
+
 ghost use Rattle.std.specs.Prelude.{◌≡◌, ℕ, ◌+◌, ◌*◌, ◌^◌, ◌<◌, ◌≤◌, length, nat_lt, slice_index_or};
 ghost use Rattle.constellation.specs.Constellation.{Carried, Width, level as leveled, origin, point, width as wide};
 ghost use Rattle.constellation.specs.Decisions.{Decided, Decisions, Heard};

@@ -1,5 +1,6 @@
 //! The interleaver of a symbol and its undoing, over `g` subchannels with `c` bits per carrier.
 #![tactic(auto)]
+
 ghost use Rattle.std.specs.Prelude.{ℕ, ◌+◌, ◌*◌, ◌<◌, ◌≤◌, length, ◌≡◌};
 ghost use Rattle.interleaver.specs.Interleaver.{Interleaved, Permutation, place as placed, size, turn as turned};
 ghost use Rattle.interleaver.specs.Steps.{Run, Symbol, stride};

@@ -1,9 +1,9 @@
 -- The first and the last row where no path is wanted.
 -- Assumes nothing.
-use Rattle.std.proofs.Common.{◌≡◌, ℕ, zero, suc, ◌+◌, ◌*◌, ◌<◌, ◌≤◌, Bool, true, false, ◌≢◌, List, get_or, Some, None, Option, sym, refl, ap, ◌∙◌, subst, ⊎_elim, arith}
+use Rattle.std.proofs.Common.{◌≡◌, ℕ, ◌<◌, false, ◌≢◌, List, get_or, Some, None, Option, sym, ap, ◌∙◌, subst, ⊎_elim, arith}
 use Rattle.std.proofs.lemmas.Bool.{cases_order}
-use Rattle.paths.specs.Model.{Model, Lawful, Path, after}
-use Rattle.paths.specs.Answers.{Arrives, LeastCost, Unreachable}
+use Rattle.paths.specs.Model.{Model, Lawful, after}
+use Rattle.paths.specs.Answers.{LeastCost, Unreachable}
 use Rattle.paths.proofs.Rows.{Least}
 use Rattle.paths.proofs.Pushed.{Leasts, EndCost}
 use Rattle.paths.proofs.Paths.{some_inj, after_within, after_cost}

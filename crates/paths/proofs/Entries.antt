@@ -1,8 +1,8 @@
 -- The entries of a lane: none where it is no state, and else the model's.
 -- Assumes nothing.
-use Rattle.std.proofs.Common.{◌≡◌, ℕ, ◌+◌, ◌<◌, ◌≤◌, Bool, true, false, cond, ltb, ◌⊎◌, Some, None, Option, sym, refl, ap, ◌∙◌, subst, inl, inr, ⊎_elim, arith, le-ltb, lt-ltb}
+use Rattle.std.proofs.Common.{◌≡◌, ℕ, ◌<◌, ◌≤◌, Bool, true, false, cond, ◌⊎◌, Some, None, sym, ap, ◌∙◌, inl, inr, ⊎_elim, arith, le-ltb, lt-ltb}
 use Rattle.std.proofs.lemmas.Bool.{cases_lt}
-use Rattle.paths.specs.Model.{Model, Lawful, Path, after}
+use Rattle.paths.specs.Model.{Model, Lawful}
 use Rattle.paths.proofs.Rows.{into}
 
 -- a state's lane has the model's entries

@@ -1,12 +1,12 @@
 -- The first row, and the answer from the last one.
 -- Assumes nothing.
-use Rattle.std.proofs.Common.{◌≡◌, ℕ, zero, suc, ◌+◌, ◌*◌, ◌<◌, ◌≤◌, Bool, true, false, cond, ◌≢◌, ◌⊎◌, List, length, get_or, Some, None, Option, sym, refl, ap, ◌∙◌, subst, inl, inr, ⊎_elim, eq-or-lt_of_le, arith}
+use Rattle.std.proofs.Common.{◌≡◌, ℕ, suc, ◌+◌, ◌<◌, Bool, true, false, ◌≢◌, List, get_or, Some, None, sym, refl, ap, ◌∙◌, subst, ⊎_elim, eq-or-lt_of_le, arith}
 use Rattle.std.proofs.lemmas.Bool.{cases_order}
 use Rattle.paths.specs.Model.{Model, Lawful, Path, after}
 use Rattle.paths.specs.Ties.{state_of, First, BitsFirst, same_bits, lower_bit, same_states, lower_state}
-use Rattle.paths.specs.Answers.{path_of, Arrives, FirstPath, Unreachable, Kept, By, Found}
-use Rattle.paths.proofs.Rows.{into, trace, Trail, Best, Rowed, Reached, Room, Below, Chosen, End}
-use Rattle.paths.proofs.Paths.{Came, came, some_inj, after_same, after_within, after_cost, after_on}
+use Rattle.paths.specs.Answers.{path_of, FirstPath, Unreachable, Kept, By, Found}
+use Rattle.paths.proofs.Rows.{trace, Trail, Best, Reached, Room, Below, Chosen, End}
+use Rattle.paths.proofs.Paths.{some_inj, after_same, after_within, after_cost, after_on}
 use Rattle.paths.proofs.Entries.{into_sound}
 
 start_first : (m : Model) (w v : Path) → First m w v 0

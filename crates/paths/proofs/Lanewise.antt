@@ -1,6 +1,6 @@
 -- Sixteen lanes of two rows, compared at once.
 -- Assumes nothing.
-use Rattle.std.proofs.Common.{◌≡◌, ℕ, zero, suc, ◌+◌, ◌-◌, ◌*◌, ◌/◌, ◌%◌, ◌^◌, ◌<◌, ◌≤◌, min, Bool, true, false, cond, ltb, List, [], ◌∷◌, ◌++◌, map, length, get_or, take, drop, replicate, sym, refl, ap, ◌∙◌, subst, ⊎_elim, lt_of_lt_of_le, mod-eq_of_lt, mul_assoc, mul_comm, mul-one, arith, length-append, pow_mono, w16, w32, le-ltb, lt-ltb}
+use Rattle.std.proofs.Common.{◌≡◌, ℕ, suc, ◌+◌, ◌-◌, ◌*◌, ◌/◌, ◌%◌, ◌^◌, ◌<◌, ◌≤◌, min, Bool, false, cond, ltb, List, [], ◌∷◌, ◌++◌, map, length, get_or, take, drop, replicate, sym, refl, ap, ◌∙◌, subst, ⊎_elim, lt_of_lt_of_le, mod-eq_of_lt, mul_assoc, mul_comm, mul-one, arith, length-append, pow_mono, w16, w32, le-ltb, lt-ltb}
 use native.Mathlib.Nat.{pow-succ'}
 use borrow.Rule.Slice.PartMut.{put_mid, mid_of, post_of, mid_len}
 use lib.Bits.{bit_or, or_shifted_r}
@@ -9,7 +9,7 @@ use mir.Syntax.{Width}
 use mir.Val.{bits, hbits}
 use Rattle.std.proofs.lemmas.Bool.{cases_lt}
 use Rattle.std.proofs.lemmas.List.{get_or_append_left, get_or-append_right, get_or-take, get_or-drop, length-take-le}
-use Rattle.std.proofs.lemmas.Simd.{length-chunk, get_or-chunk, tops_compared, length-zip2, get_or-zip2, length-sel_l, get_or-sel_l, get_or-replicate, length-replicate, put_chunk_whole, mask_l-lt, mask_l-mod, bit_mask_l}
+use Rattle.std.proofs.lemmas.Simd.{length-chunk, get_or-chunk, tops_compared, length-zip2, get_or-zip2, length-sel_l, get_or-sel_l, get_or-replicate, put_chunk_whole, mask_l-lt, mask_l-mod, bit_mask_l}
 use Rattle.paths.proofs.Lanes.{Lanes, Marks, Costs, capped_min}
 
 -- ---- of either width

@@ -1,9 +1,8 @@
 -- Paths, one stage at a time.
 -- Assumes nothing.
-use Rattle.std.proofs.Common.{◌≡◌, ℕ, zero, suc, ◌+◌, ◌*◌, ◌/◌, ◌%◌, ◌^◌, ◌<◌, ◌≤◌, min, Bool, true, false, cond, eqb, ltb, ◌≢◌, ◌⊎◌, List, get_or, Some, None, Option, sym, refl, ap, ◌∙◌, subst, inl, inr, ⊎_elim, eq-or-lt_of_le, arith, eq-eqb, ne_eqb}
-use Rattle.std.proofs.lemmas.Bool.{cases_lt}
+use Rattle.std.proofs.Common.{◌≡◌, ℕ, zero, suc, ◌+◌, ◌*◌, ◌<◌, ◌≤◌, Bool, true, false, cond, eqb, ◌⊎◌, Some, None, Option, sym, refl, ap, ◌∙◌, subst, inl, inr, ⊎_elim, eq-or-lt_of_le, arith, eq-eqb, ne_eqb}
 use Rattle.paths.specs.Model.{Model, Lawful, Path, after, paid, onward}
-use Rattle.paths.specs.Ties.{state, state_of, First, BitsFirst, same_bits, lower_bit, same_states, lower_state}
+use Rattle.paths.specs.Ties.{state_of, First, BitsFirst, same_bits, lower_bit, same_states, lower_state}
 
 -- a path with another bit at stage k
 abbrev pub upd : Path → ℕ → Bool → Path

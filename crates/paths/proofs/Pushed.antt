@@ -1,6 +1,6 @@
 -- Rows of costs where no path is wanted: one stage, branch by branch, and the last row.
 -- Assumes nothing.
-use Rattle.std.proofs.Common.{◌≡◌, ℕ, ◌+◌, ◌*◌, ◌<◌, ◌≤◌, Bool, true, false, cond, List, get_or, Some, None, Option}
+use Rattle.std.proofs.Common.{◌≡◌, ℕ, ◌+◌, ◌*◌, ◌<◌, ◌≤◌, Bool, true, cond, List, get_or, Some, None, Option}
 use Rattle.paths.specs.Model.{Model}
 use Rattle.paths.proofs.Rows.{Least}
 

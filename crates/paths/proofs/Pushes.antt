@@ -1,10 +1,9 @@
 -- Branches followed one by one, where no path is wanted.
 -- Assumes nothing.
-use Rattle.std.proofs.Common.{◌≡◌, ℕ, zero, suc, ◌+◌, ◌*◌, ◌<◌, ◌≤◌, min, Bool, true, false, cond, ◌≢◌, ◌⊎◌, List, [], ◌∷◌, length, get_or, set, Some, None, Option, sym, refl, ap, ◌∙◌, subst, inl, inr, ⊎_elim, eq-or-lt_of_le, add-one, arith, get_or-set_other, get_or-set_same}
+use Rattle.std.proofs.Common.{◌≡◌, ℕ, zero, suc, ◌+◌, ◌*◌, ◌<◌, ◌≤◌, min, Bool, true, false, ◌≢◌, List, [], ◌∷◌, length, get_or, set, Some, None, Option, sym, refl, ap, ◌∙◌, subst, ⊎_elim, eq-or-lt_of_le, add-one, arith, get_or-set_other, get_or-set_same}
 use Rattle.std.proofs.lemmas.Bool.{cases_order, cases_lt}
-use Rattle.paths.specs.Model.{Model, Lawful, Path, after}
+use Rattle.paths.specs.Model.{Model, Lawful}
 use Rattle.paths.specs.Replies.{Leads}
-use Rattle.paths.proofs.Rows.{Least}
 use Rattle.paths.proofs.Pushed.{turn, Source, Partly, Leasts}
 use Rattle.paths.proofs.Paths.{upd, some_inj, Came, came, after_on, after_within}
 

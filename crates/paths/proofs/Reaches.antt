@@ -1,8 +1,8 @@
 -- The survivors, one stage at a time.
 -- Assumes nothing.
-use Rattle.std.proofs.Common.{◌≡◌, ℕ, zero, suc, ◌+◌, ◌*◌, ◌/◌, ◌%◌, ◌^◌, ◌<◌, ◌≤◌, min, Bool, true, false, cond, ◌≢◌, List, length, get_or, set, Some, None, Option, sym, refl, ap, ◌∙◌, subst, add-one, arith, get_or-set_other, get_or-set_same}
-use Rattle.paths.specs.Model.{Model, Lawful, Path, after}
-use Rattle.paths.proofs.Rows.{into, Relaxed, chosen, follow, Onto, trace, Trail, Best, Rowed, Reached, Capped}
+use Rattle.std.proofs.Common.{◌≡◌, ℕ, zero, suc, ◌+◌, ◌<◌, true, ◌≢◌, List, length, get_or, set, sym, refl, subst, add-one, arith, get_or-set_other, get_or-set_same}
+use Rattle.paths.specs.Model.{Model, Lawful}
+use Rattle.paths.proofs.Rows.{into, Relaxed, chosen, follow, Onto, trace, Trail, Rowed, Reached, Capped}
 use Rattle.paths.proofs.Stages.{best_step, open_step}
 
 pub trace_same : (m : Model) (a b : List ℕ) (k : ℕ) → ((j : ℕ) → j < k → get_or a j 0 ≡ get_or b j 0) → trace m a k ≡ trace m b k

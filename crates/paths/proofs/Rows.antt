@@ -1,7 +1,6 @@
 -- Rows of costs and words of survivors, as the search keeps them. 2 ^ 29 stands for 'no open path'.
 -- Assumes nothing.
-use Rattle.std.proofs.Common.{◌≡◌, ℕ, zero, suc, ◌+◌, ◌*◌, ◌/◌, ◌%◌, ◌^◌, ◌<◌, ◌≤◌, min, Bool, true, false, cond, eqb, ltb, List, map, length, get_or, Some, None, Option}
-use lib.Lanes.{mask_l}
+use Rattle.std.proofs.Common.{◌≡◌, ℕ, zero, suc, ◌+◌, ◌/◌, ◌%◌, ◌^◌, ◌<◌, ◌≤◌, min, Bool, true, false, cond, eqb, ltb, List, get_or, Some, None, Option}
 use Rattle.paths.specs.Model.{Model, Path, after}
 use Rattle.paths.specs.Ties.{First}
 use Rattle.paths.proofs.Paths.{upd}

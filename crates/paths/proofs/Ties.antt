@@ -1,10 +1,10 @@
 -- The tie rule decides between any two paths, and a search has one answer.
 -- Assumes nothing.
-use Rattle.std.proofs.Common.{◌≡◌, ℕ, zero, suc, ◌+◌, ◌<◌, ◌≤◌, Bool, true, false, cond, ◌≢◌, ◌⊎◌, List, [], ◌∷◌, length, get_or, Some, None, Option, sym, refl, ap, ◌∙◌, subst, inl, inr, ⊎_elim, eq-or-lt_of_le, arith}
+use Rattle.std.proofs.Common.{◌≡◌, ℕ, zero, suc, ◌<◌, ◌≤◌, Bool, true, false, cond, ◌⊎◌, List, [], ◌∷◌, length, get_or, Some, None, Option, sym, refl, ap, ◌∙◌, subst, inl, inr, ⊎_elim, arith}
 use Rattle.std.proofs.lemmas.Bool.{cases_lt, cases_order}
 use Rattle.paths.specs.Model.{Model, Path, after}
-use Rattle.paths.specs.Ties.{state, state_of, First, BitsFirst, same_bits, lower_bit, same_states, lower_state}
-use Rattle.paths.specs.Answers.{Arrives, Unreachable, LeastCost, FirstPath, path_of, Kept, By, Found}
+use Rattle.paths.specs.Ties.{state, First, BitsFirst, same_bits, lower_bit, same_states, lower_state}
+use Rattle.paths.specs.Answers.{Arrives, LeastCost, FirstPath, path_of, Kept, By, Found}
 use Rattle.paths.proofs.Paths.{at_most}
 
 -- ---- two paths that are both first are the same bits

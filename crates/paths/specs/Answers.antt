@@ -1,6 +1,6 @@
 -- What a search finds.
 -- Assumes nothing.
-use Rattle.std.specs.Prelude.{◌≡◌, ℕ, ◌<◌, ◌≤◌, Bool, true, false, List, Some, None, Option, slice_index_or}
+use Rattle.std.specs.Prelude.{◌≡◌, ℕ, ◌≤◌, Bool, true, false, List, Some, None, Option, slice_index_or}
 use Rattle.paths.specs.Model.{Model, Path, after}
 use Rattle.paths.specs.Ties.{First}
 

@@ -1,6 +1,6 @@
 -- Which of two paths is first, where both cost the same.
 -- Assumes nothing.
-use Rattle.std.specs.Prelude.{◌≡◌, ℕ, ◌<◌, ◌≤◌, Bool, true, false, Some, None, Option}
+use Rattle.std.specs.Prelude.{◌≡◌, ℕ, ◌<◌, ◌≤◌, true, false, Some, None, Option}
 use Rattle.paths.specs.Model.{Model, Path, after}
 
 abbrev pub state_of : Option (ℕ × ℕ) → ℕ

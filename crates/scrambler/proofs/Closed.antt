@@ -1,14 +1,13 @@
 -- Eight new bits at once: the register's fifteen bits give them all, since what is pushed comes out fourteen bits later.
 -- Assumes nothing.
-use mathlib.Core.Path.{◌≡◌, refl, sym, ◌∙◌, ap, ap₂, subst}
-use Prim.Native.Nat.{ℕ, zero, suc, ◌+◌, ◌-◌, ◌*◌, ◌/◌, ◌%◌, ◌^◌, ◌<◌, ◌≤◌}
+use mathlib.Core.Path.{◌≡◌, refl, sym, ◌∙◌, ap, ap₂}
+use Prim.Native.Nat.{ℕ, zero, suc, ◌+◌, ◌*◌, ◌/◌, ◌%◌, ◌^◌, ◌<◌}
 use native.Mathlib.Omega.{arith}
-use mathlib.Core.List.{List, [], ◌∷◌}
+use mathlib.Core.List.{[], ◌∷◌}
 use lib.Bits.{bit_xor, xor_comm}
 use lib.ListN.{get_or}
-use lib.Dec.{eqb}
 use Rattle.words.specs.Words.{digit, value}
-use Rattle.words.proofs.Bridge.{xor_bit, eqb_digit, value_of}
+use Rattle.words.proofs.Bridge.{xor_bit}
 use Rattle.scrambler.specs.Scrambler.{fresh, pushed, after}
 use Rattle.scrambler.specs.Eight.{key, turned}
 use Rattle.scrambler.proofs.Keys.{fresh_lt, fresh_is}

@@ -1,17 +1,17 @@
 -- The register, and bytes scrambled one by one.
 -- Assumes nothing.
-use mathlib.Core.Path.{◌≡◌, refl, sym, ◌∙◌, ap, ap₂, subst}
+use mathlib.Core.Path.{◌≡◌, refl, sym, ◌∙◌, ap, ap₂}
 use mathlib.Core.Bool.{Bool, true, false}
 use mathlib.Core.List.{List}
-use Prim.Native.Nat.{ℕ, zero, suc, ◌+◌, ◌-◌, ◌*◌, ◌/◌, ◌%◌, ◌^◌, ◌<◌, ◌≤◌}
+use Prim.Native.Nat.{ℕ, zero, suc, ◌+◌, ◌*◌, ◌/◌, ◌%◌, ◌^◌, ◌<◌, ◌≤◌}
 use native.Mathlib.Omega.{arith}
 use native.Mathlib.Nat.{add-zero, add-suc, div-one}
 use native.Mathlib.Decide.{ℕ_discrete}
 use lib.Dec.{eqb}
-use lib.Bits.{bit_xor, xor_lt}
+use lib.Bits.{bit_xor}
 use lib.ListN.{length, get_or, set}
 use lib.Seq.{get_or-set_same, get_or-set_other}
-use Rattle.words.specs.Words.{Bits, Bytes, word, ◌⊻◌, plus, digit, bits, value, bytes}
+use Rattle.words.specs.Words.{Bytes, word, ◌⊻◌, digit, bits, bytes}
 use Rattle.words.proofs.Bridge.{digit_lt, digit_xor, eqb_digit, value_below, value_same, value_xor, bits_bytes, bytes_bits, bits_same}
 use Rattle.scrambler.specs.Scrambler.{fresh, pushed, after, scrambled}
 use Rattle.scrambler.specs.Eight.{key}

@@ -1,5 +1,6 @@
 //! The scrambler (data randomizer): a register of fifteen stages whose bits are added to the data.
 #![tactic(auto)]
+
 ghost use Rattle.std.specs.Prelude.{ℕ, ◌*◌, ◌<◌, ◌≤◌, ◌^◌, get_or, length, ◌≡◌};
 ghost use Rattle.scrambler.specs.Eight.{key as keyed, turned};
 ghost use Rattle.scrambler.specs.Scrambler.{after, scrambled, start as started};

@@ -1,6 +1,6 @@
 -- What is known of a request that nothing refuses.
 -- Assumes nothing.
-use Rattle.std.proofs.Common.{◌≡◌, ℕ, ◌<◌, ◌≤◌, Bool, true, false, cond, ◌||◌, eqb, ltb, List, [], ◌∷◌, drop, Some, None, Option, sym, refl, ap, arith, ltb-false}
+use Rattle.std.proofs.Common.{◌≡◌, ℕ, ◌≤◌, Bool, true, false, ◌||◌, eqb, ltb, List, ◌∷◌, drop, None, refl, arith, ltb-false}
 use borrow.Author.Tests.{eqb-false}
 use Rattle.standard.specs.declared.order.Request.{Request}
 use Rattle.standard.specs.declared.refusal.Refusal.{Refusal}

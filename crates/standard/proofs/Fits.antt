@@ -1,6 +1,6 @@
 -- What fits together in every row of the profile table.
 -- Assumes nothing.
-use Rattle.std.proofs.Common.{◌≡◌, ℕ, zero, suc, ◌≤◌, ◌⊎◌, refl, inl, inr, arith, lit≤}
+use Rattle.std.proofs.Common.{ℕ, zero, suc, ◌≤◌, refl, inl, inr, arith, lit≤}
 use Rattle.standard.specs.Profiles.{profile, Fitting}
 
 pub profiles_fit : (rate : ℕ) → rate ≤ 6 → Fitting (profile rate)

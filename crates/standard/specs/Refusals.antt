@@ -1,6 +1,6 @@
 -- Refusals: their numbers, and which of several conditions is told.
 -- Assumes nothing.
-use Rattle.std.specs.Prelude.{◌≡◌, ℕ, ◌+◌, ◌-◌, ◌*◌, Bool, cond, not, ◌||◌, List, [], ◌∷◌, ◌++◌, Some, None, Ok, Err, Option, Result, ◌==◌, nat_lt}
+use Rattle.std.specs.Prelude.{◌≡◌, ℕ, ◌-◌, ◌*◌, Bool, cond, not, ◌||◌, List, [], ◌∷◌, ◌++◌, Some, None, Ok, Err, Option, Result, ◌==◌, nat_lt}
 use Rattle.standard.specs.declared.refusal.Refusal.{Refusal}
 use Rattle.standard.specs.declared.refusal.Refusal.TheVariants.{Rate, Identity, Symbols, DataLength, PointCount, Output, Memory, Block, UnknownMark, CutShort}
 use Rattle.standard.specs.declared.order.Request.{Request}

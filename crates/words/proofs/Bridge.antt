@@ -1,15 +1,15 @@
 -- Bits to bytes and back.
 -- Assumes nothing.
-use mathlib.Core.Path.{◌≡◌, refl, sym, ◌∙◌, ap, ap₂, subst}
-use mathlib.Core.Bool.{Bool, true, false, not, cond}
-use mathlib.Core.List.{List, [], ◌∷◌}
-use Prim.Native.Nat.{ℕ, zero, suc, ◌+◌, ◌-◌, ◌*◌, ◌/◌, ◌%◌, ◌^◌, ◌<◌, ◌≤◌}
+use mathlib.Core.Path.{◌≡◌, refl, sym, ◌∙◌, ap, ap₂}
+use mathlib.Core.Bool.{Bool, true, false}
+use mathlib.Core.List.{List, ◌∷◌}
+use Prim.Native.Nat.{ℕ, zero, suc, ◌+◌, ◌-◌, ◌*◌, ◌/◌, ◌%◌, ◌^◌, ◌<◌}
 use native.Mathlib.Omega.{arith}
 use native.Mathlib.Nat.{div-one, div-div-eq-div-mul, mul_comm, pow-succ'}
 use lib.Dec.{eqb}
 use lib.Bits.{bit_xor, xor_mod, xor_shr, xor_block}
 use lib.ListN.{length, get_or}
-use Rattle.words.specs.Words.{Bits, Bytes, ◌⊻◌, plus, digit, bits, value, bytes, listed, ones}
+use Rattle.words.specs.Words.{Bits, Bytes, ◌⊻◌, plus, digit, bits, value, bytes, listed}
 
 pub digit_lt : (b : Bool) → digit b < 2
 digit_lt true = omega arith

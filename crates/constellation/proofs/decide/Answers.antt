@@ -2,8 +2,8 @@ use Rattle.std.proofs.lemmas.Int.{to_z-of_z}
 use Rattle.constellation.proofs.Nearness.{decided_code, code_below}
 use Rattle.constellation.proofs.decide.Goals as goal
 
-pub overflow-sub-result-2 : goal.overflow-sub-result-2
-overflow-sub-result-2 c = code_below c.args.b c.levels-l.result _ c.nearest-n.result c.requires c.levels-l.ensures c.nearest-n.ensures
+pub overflow_sub-result-2 : goal.overflow_sub-result-2
+overflow_sub-result-2 c = code_below c.args.b c.levels-l.result _ c.nearest-n.result c.requires c.levels-l.ensures c.nearest-n.ensures
 
 pub returns : goal.returns
 returns c =

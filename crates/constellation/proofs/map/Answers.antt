@@ -4,4 +4,4 @@ use Rattle.constellation.proofs.Mapping.{mapped_more}
 use Rattle.constellation.proofs.map.Goals as goal
 
 pub loop-t-preserved : goal.loop-t-preserved
-loop-t-preserved c = mapped_more c.args.c c.loop-t.t (flags c.args.sent.now) c.loop-t.points c.point-at.result (omega arith) c.point-at.ensures c.loop-t.invariant
+loop-t-preserved c = mapped_more c.args.c c.loop-t.t (flags c.args.sent.now) c.loop-t.points c.point_at.result (omega arith) c.point_at.ensures c.loop-t.invariant

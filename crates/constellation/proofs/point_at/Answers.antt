@@ -6,7 +6,7 @@ use Rattle.constellation.proofs.point_at.Goals as goal
 
 pub returns-else-c-eq1 : goal.returns-else-c-eq1
 returns-else-c-eq1 c =
-    let f : SFits w16 c.axis-at-i.result = search rules in
-    let g : SFits w16 c.axis-at-q.result = search rules in
+    let f : SFits w16 c.axis_at-i.result = search rules in
+    let g : SFits w16 c.axis_at-q.result = search rules in
     point_by c.args.c c.width-b.result (flags c.args.sent.now) c.args.t _ _ (omega arith) c.width-b.ensures.value
-    (to_z-of_z w16 c.axis-at-i.result f ∙ c.axis-at-i.ensures) (to_z-of_z w16 c.axis-at-q.result g ∙ c.axis-at-q.ensures)
+    (to_z-of_z w16 c.axis_at-i.result f ∙ c.axis_at-i.ensures) (to_z-of_z w16 c.axis_at-q.result g ∙ c.axis_at-q.ensures)

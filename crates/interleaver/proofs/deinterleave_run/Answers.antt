@@ -5,14 +5,14 @@ use Rattle.interleaver.specs.Interleaver.{size, place}
 use Rattle.interleaver.proofs.Writing.{into_own, run_more, run_within, turn_few}
 use Rattle.interleaver.proofs.deinterleave_run.Goals as goal
 
-pub overflow-add-coded : goal.overflow-add-coded
-overflow-add-coded c = let w = run_within c.requires.some c.requires.modulation c.loop-k-test.true c.loop-k.invariant in omega arith
+pub overflow_add-coded : goal.overflow_add-coded
+overflow_add-coded c = let w = run_within c.requires.some c.requires.modulation c.loop-k-test.true c.loop-k.invariant in omega arith
 
 pub bounds-heard-base : goal.bounds-heard-base
 bounds-heard-base c = let w = run_within c.requires.some c.requires.modulation c.loop-k-test.true c.loop-k.invariant in omega arith
 
-pub overflow-add-j : goal.overflow-add-j
-overflow-add-j c = let w = run_within c.requires.some c.requires.modulation c.loop-k-test.true c.loop-k.invariant in let s = turn_few c.args.c c.requires.modulation in omega arith
+pub overflow_add-j : goal.overflow_add-j
+overflow_add-j c = let w = run_within c.requires.some c.requires.modulation c.loop-k-test.true c.loop-k.invariant in let s = turn_few c.args.c c.requires.modulation in omega arith
 
 pub loop-k-preserved : goal.loop-k-preserved
 loop-k-preserved c =

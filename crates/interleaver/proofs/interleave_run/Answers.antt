@@ -1,18 +1,18 @@
 use mathlib.Core.Path.{refl}
 use native.Mathlib.Omega.{arith}
 use Rattle.words.specs.Words.{flags}
-use Rattle.interleaver.specs.Interleaver.{size, place}
+use Rattle.interleaver.specs.Interleaver.{place}
 use Rattle.interleaver.proofs.Writing.{into_place, run_more, run_within, turn_few}
 use Rattle.interleaver.proofs.interleave_run.Goals as goal
 
-pub overflow-add-sent-in-loop-k : goal.overflow-add-sent-in-loop-k
-overflow-add-sent-in-loop-k c = let w = run_within c.requires.some c.requires.modulation c.loop-k-test.true c.loop-k.invariant in omega arith
+pub overflow_add-sent-in-loop-k : goal.overflow_add-sent-in-loop-k
+overflow_add-sent-in-loop-k c = let w = run_within c.requires.some c.requires.modulation c.loop-k-test.true c.loop-k.invariant in omega arith
 
 pub bounds-sent-base : goal.bounds-sent-base
 bounds-sent-base c = let w = run_within c.requires.some c.requires.modulation c.loop-k-test.true c.loop-k.invariant in omega arith
 
-pub overflow-add-j : goal.overflow-add-j
-overflow-add-j c = let w = run_within c.requires.some c.requires.modulation c.loop-k-test.true c.loop-k.invariant in let s = turn_few c.args.c c.requires.modulation in omega arith
+pub overflow_add-j : goal.overflow_add-j
+overflow_add-j c = let w = run_within c.requires.some c.requires.modulation c.loop-k-test.true c.loop-k.invariant in let s = turn_few c.args.c c.requires.modulation in omega arith
 
 pub loop-k-preserved : goal.loop-k-preserved
 loop-k-preserved c =

@@ -1,8 +1,8 @@
-use mathlib.Core.Path.{◌≡◌, ◌∙◌, sym, subst, ap}
+use mathlib.Core.Path.{◌∙◌, sym, subst, ap}
 use native.Mathlib.Omega.{arith}
 use borrow.Author.Rules.{rules}
 use Prim.Native.Nat.{ℕ, ◌<◌, ◌^◌, ◌*◌}
-use lib.ListN.{length, get_or}
+use lib.ListN.{get_or}
 use Rattle.scrambler.specs.Scrambler.{after}
 use Rattle.scrambler.proofs.Keys.{after_lt, key_lt, bytes_none, bytes_more, bytes_undone}
 use Rattle.scrambler.proofs.scramble.Goals as goal
@@ -13,8 +13,8 @@ loop-i-init c = bytes_none c.args.register c.args.bytes.now
 pub eight-key-requires : goal.eight-key-requires
 eight-key-requires c = subst (λ (n : ℕ). n < 2 ^ 15) (sym c.loop-i.invariant.left) (after_lt (8 * c.loop-i.i) c.args.register c.requires.register)
 
-pub overflow-cast-bytes : goal.overflow-cast-bytes
-overflow-cast-bytes c = let h = key_lt 8 c.loop-i.left in let e = c.eight-key.ensures.key in search rules
+pub overflow_cast-bytes : goal.overflow_cast-bytes
+overflow_cast-bytes c = let h = key_lt 8 c.loop-i.left in let e = c.eight-key.ensures.key in search rules
 
 pub loop-i-preserved : goal.loop-i-preserved
 loop-i-preserved c =

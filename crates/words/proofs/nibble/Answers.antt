@@ -1,11 +1,10 @@
-use mathlib.Core.Path.{◌≡◌, ◌∙◌, sym, ap}
-use Prim.Native.Nat.{ℕ, ◌+◌, ◌*◌, ◌<◌}
+use mathlib.Core.Path.{◌≡◌, ap}
+use Prim.Native.Nat.{ℕ, ◌+◌}
 use native.Mathlib.Omega.{arith}
 use native.Mathlib.Nat.{add-zero}
 use lib.ListN.{get_or}
 use mathlib.Core.Bool.{false}
-use Rattle.words.specs.Words.{flags, digit, value}
-use Rattle.words.proofs.Bridge.{value_below}
+use Rattle.words.specs.Words.{digit, value}
 use Rattle.words.proofs.nibble.Goals as goal
 
 pub returns : goal.returns
