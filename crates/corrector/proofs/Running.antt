@@ -1,6 +1,6 @@
 -- The powers that a loop adds to a row of values, its exponent running along.
 -- Assumes nothing.
-use Rattle.std.proofs.Common.{◌≡◌, ℕ, ◌+◌, ◌-◌, ◌<◌, ◌≤◌, ◌⊎◌, List, length, get_or, set, sym, ap, ◌∙◌, ap₂, inl, inr, le_refl, add-one, arith}
+use Rattle.std.proofs.Common.{◌≡◌, ℕ, ◌+◌, ◌<◌, ◌≤◌, ◌⊎◌, List, length, get_or, set, sym, ap, ◌∙◌, ap₂, inl, inr, le_refl, add-one, arith}
 use lib.Bits.{bit_xor}
 use Rattle.field.specs.Field.{◌⊕◌, ◌⊗◌, gexp, gpow}
 use Rattle.field.proofs.Field.{exp_lt, exp_mul, exp_255_more, mul_assoc, mul_comm, mul_left_comm, mul_one}

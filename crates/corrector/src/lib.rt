@@ -1,5 +1,6 @@
 //! The outer corrector: it turns a block into the only outer word within the limit, or refuses it.
 #![tactic(auto)]
+
 mod errors;
 mod locator;
 mod syndromes;

@@ -1,7 +1,6 @@
 -- The fewest ones of a harmful word give the reach.
 -- Assumes nothing.
-use mathlib.Core.Path.{◌≡◌}
-use Prim.Native.Nat.{ℕ, ◌-◌, ◌*◌, ◌/◌, ◌<◌}
+use Prim.Native.Nat.{ℕ, ◌-◌, ◌/◌, ◌<◌}
 use native.Mathlib.Omega.{arith}
 use Rattle.harm_words.specs.Harm.{LeastHarm, Reach, Shape}
 

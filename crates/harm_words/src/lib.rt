@@ -1,5 +1,6 @@
 //! Harmful words, the fewest ones in them, and the trellis whose least path counts these.
 #![tactic(auto)]
+
 ghost use Rattle.harm_words.specs.Harm.{LeastHarm, Reach, Shape};
 ghost use Rattle.std.specs.Prelude.{ℕ, ◌-◌, ◌/◌, ◌<◌};
 

@@ -1,5 +1,6 @@
 //! The encoder of the inner code, for a whole burst.
 #![tactic(auto)]
+
 ghost use Rattle.std.specs.Prelude.{ℕ, ◌+◌, ◌*◌, ◌<◌, ◌≤◌, get_or, length, false, ◌≡◌};
 ghost use Rattle.inner_code.specs.Inner.{coded as codeword, x as x-output, y as y-output};
 ghost use Rattle.inner.specs.Outputs.{bit, kept, offset as offset-of, x_in, y_in};

@@ -1,5 +1,6 @@
 //! The convolutional inner code: its encoder by position, its puncturing and its laws.
 #![tactic(auto)]
+
 ghost use Rattle.std.specs.Prelude.{ℕ, ◌≡◌};
 ghost use Rattle.inner_code.specs.Inner.{coded};
 ghost use Rattle.words.specs.Words.{Bits, ◌⊻◌, ones, plus};

@@ -1,5 +1,6 @@
 //! The inner words, the nearest of them to what was heard, and the trellis whose first path it is.
 #![tactic(auto)]
+
 ghost use Rattle.std.specs.Prelude.{◌≡◌, ℕ, ◌+◌, ◌*◌, ◌<◌, ◌≤◌, Some};
 ghost use Rattle.inner_code.specs.Inner.{Rated, coded};
 ghost use Rattle.inner_words.specs.InnerWords.{Nearest, Tailed, wrong as wrongs};

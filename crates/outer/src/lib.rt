@@ -1,5 +1,6 @@
 //! The outer encoder: before each block of a message it writes the block's parity.
 #![tactic(auto)]
+
 ghost use Rattle.std.specs.Prelude.{◌≡◌, ℕ, suc, ◌+◌, ◌*◌, ◌<◌, ◌≤◌, length, slice_index, slice_index_or};
 ghost use Rattle.field.specs.Field.{◌⊕◌, ◌⊗◌, gexp};
 ghost use Rattle.outer_code.specs.Blocks.{blocks};

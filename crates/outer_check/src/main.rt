@@ -1,5 +1,6 @@
 //! Damages outer words of every profile and corrects them: what must come back comes back, and what comes back is an outer word.
 #![tactic(auto)]
+
 ghost use Rattle.std.specs.Prelude.{◌+◌, ◌-◌, ◌*◌, ◌<◌, ◌≤◌};
 
 use std::io;

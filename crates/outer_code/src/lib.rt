@@ -1,5 +1,6 @@
 //! The outer code: a shortened and punctured Reed-Solomon code, and the blocks that are sent.
 #![tactic(auto)]
+
 ghost use Rattle.std.specs.Prelude.{ℕ, ◌+◌, ◌*◌, ◌<◌, ◌≤◌};
 ghost use Rattle.outer_code.specs.Blocks.{blocks};
 ghost use Rattle.outer_code.specs.Outer.{Outer};

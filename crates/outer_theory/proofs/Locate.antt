@@ -1,6 +1,6 @@
 -- What weighted power sums tell of the places where two words differ.
 -- Assumes nothing.
-use Rattle.std.proofs.Common.{◌≡◌, ℕ, suc, ◌+◌, ◌-◌, ◌<◌, ◌≤◌, sym, ap, ◌∙◌, le_trans, arith}
+use Rattle.std.proofs.Common.{◌≡◌, ℕ, suc, ◌+◌, ◌<◌, ◌≤◌, sym, ap, ◌∙◌, le_trans, arith}
 use Rattle.field.specs.Field.{◌⊕◌, ◌⊗◌, gpow}
 use Rattle.field.proofs.Field.{add_zero, add_lt, mul_assoc, mul_comm, mul_left_comm, add_mul, mul_lt, zero_mul, no_divisors}
 use Rattle.outer_theory.specs.Sums.{sum, count}

@@ -1,6 +1,6 @@
 -- A polynomial that is not 0 has no more roots than its degree.
 -- Assumes nothing.
-use Rattle.std.proofs.Common.{◌≡◌, ℕ, zero, suc, ◌+◌, ◌-◌, ◌*◌, ◌<◌, ◌≤◌, List, [], ◌∷◌, length, get_or, sym, refl, ap, ◌∙◌, ap₂, le_refl, arith}
+use Rattle.std.proofs.Common.{◌≡◌, ℕ, zero, suc, ◌<◌, ◌≤◌, List, [], ◌∷◌, length, get_or, sym, refl, ap, ◌∙◌, ap₂, le_refl, arith}
 use native.Mathlib.Nat.{le_step}
 use Rattle.field.specs.Field.{◌⊕◌, ◌⊗◌, gpow}
 use Rattle.field.proofs.Field.{add_comm, add_self, add_zero, zero_add, add_lt, add_swap, mul_left_comm, mul_add, add_mul, mul_lt, mul_zero, mul_one, no_divisors}

@@ -45,7 +45,7 @@ sum_mul (suc n) c f = ap (λ (x : ℕ). x ⊕ (c ⊗ f n)) (sum_mul n c f) ∙ s
 
 pub sum_join : (n e : ℕ) (f : ℕ → ℕ) → sum (n + e) f ≡ sum e f ⊕ sum n (λ k. f (k + e))
 unfolding sum
-sum_join zero e f = ap (λ (x : ℕ). sum x f) (N.zero_add e) ∙ sym (add_zero (sum e f))
+sum_join zero e f = ap (λ (x : ℕ). sum x f) (N.zero-add e) ∙ sym (add_zero (sum e f))
 sum_join (suc n) e f =
     ap (λ (x : ℕ). sum x f) (suc-add n e) ∙ ap (λ (x : ℕ). x ⊕ f (n + e)) (sum_join n e f)
     ∙ add_assoc (sum e f) (sum n (λ k. f (k + e))) (f (n + e))
@@ -159,7 +159,7 @@ count_yes n c f e z = ap₂ ◌+◌ e (sym (one (f n) z)) ∙ ap (λ (m : ℕ). 
 
 pub count_no : (n c : ℕ) (f : ℕ → ℕ) → c ≡ count n f → f n ≡ 0 → c ≡ count (n + 1) f
 unfolding count
-count_no n c f e z = sym (N.add_zero c) ∙ ap₂ ◌+◌ e (sym (ap one_if z)) ∙ ap (λ (m : ℕ). count m f) (sym (add-one n))
+count_no n c f e z = sym (N.add-zero c) ∙ ap₂ ◌+◌ e (sym (ap one_if z)) ∙ ap (λ (m : ℕ). count m f) (sym (add-one n))
 
 pub count_start : (f : ℕ → ℕ) → 0 ≡ count 0 f
 unfolding count

@@ -1,6 +1,6 @@
 -- As many power sums as there are numbers that are not 0 cannot all vanish.
 -- Assumes nothing.
-use Rattle.std.proofs.Common.{◌≡◌, ℕ, zero, suc, ◌+◌, ◌-◌, ◌*◌, ◌<◌, ◌≤◌, sym, refl, ap, ◌∙◌, subst, inl, inr, le_refl, le_of_suc-le-suc, not-suc-le-zero, eq-or-lt_of_le, arith}
+use Rattle.std.proofs.Common.{◌≡◌, ℕ, zero, suc, ◌<◌, ◌≤◌, sym, refl, ap, ◌∙◌, subst, inl, inr, le_refl, le_of_suc-le-suc, not-suc-le-zero, eq-or-lt_of_le, arith}
 use native.Mathlib.Nat.{le_step}
 use Rattle.field.specs.Field.{◌⊕◌, ◌⊗◌, gpow}
 use Rattle.field.proofs.Field.{add_zero, add_lt, mul_assoc, mul_comm, mul_left_comm, mul_add, add_mul, mul_lt, zero_mul, mul_one, no_divisors}

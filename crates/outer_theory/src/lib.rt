@@ -1,5 +1,6 @@
 //! Why a block can be corrected: what its syndromes tell of it, and that at most one outer word is near it.
 #![tactic(auto)]
+
 ghost use Rattle.std.specs.Prelude.{◌≡◌, ℕ, ◌+◌, ◌*◌, ◌<◌, ◌≤◌, List, length, drop};
 ghost use Rattle.outer_code.specs.Blocks.{block_of};
 ghost use Rattle.outer_code.specs.Outer.{AreBytes, Outer};

@@ -1,5 +1,6 @@
 //! The receiver of the inner code: the nearest inner word to what was heard.
 #![tactic(auto)]
+
 ghost use Rattle.std.specs.Prelude.{◌≡◌, ◌+◌, ◌*◌, ◌≤◌, false, length, is_ok, IfOk};
 ghost use Rattle.inner_words.specs.InnerWords.{Nearest, wrong as wrongs};
 ghost use Rattle.paths.specs.Answers.{Kept, path_of};

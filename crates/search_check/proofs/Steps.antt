@@ -1,6 +1,6 @@
 -- Counting and finding, one branch at a time.
 -- Assumes nothing.
-use Rattle.std.proofs.Common.{◌≡◌, ℕ, zero, suc, ◌+◌, ◌*◌, ◌<◌, ◌≤◌, Bool, true, false, cond, ◌&&◌, eqb, List, Some, None, Option, sym, refl, ap, ◌∙◌, add-one, arith}
+use Rattle.std.proofs.Common.{◌≡◌, ℕ, suc, ◌+◌, ◌≤◌, Bool, true, false, cond, ◌&&◌, eqb, List, Some, None, refl, ap, ◌∙◌, add-one, arith}
 use Rattle.paths.specs.Registers.{digit}
 use Rattle.search_check.specs.Small.{leads, count, find}
 

@@ -1,5 +1,6 @@
 //! Compares the search with every path of small trellises.
 #![tactic(auto)]
+
 ghost use Rattle.std.specs.Prelude.{◌<◌, ◌≤◌};
 
 mod compare;

@@ -9,13 +9,13 @@ const ROW_WORDS: usize = 4096;
 
 // Follows one branch; a closed one costs too much to lower anything.
 fn push<T: Trellis>(trellis: &T, k: usize, s: usize, bit: bool, row: &[u64], next: &mut [u64])
-    requires early { k < (model trellis.now).stages }
-    requires low { s < (model trellis.now).states }
-    requires row_long { (model trellis.now).states ≤ length row.now }
-    requires next_long { (model trellis.now).states ≤ length next.old }
+    requires early { k < (T.model trellis.now).stages }
+    requires low { s < (T.model trellis.now).states }
+    requires row_long { (T.model trellis.now).states ≤ length row.now }
+    requires next_long { (T.model trellis.now).states ≤ length next.old }
     requires capped { slice_index row.now s ≤ 536870912 }
-    requires sofar { Partly (model trellis.now) k row.now next.old (turn s bit) }
-    ensures { Partly (model trellis.now) k row.now next.new (turn s bit + 1) }
+    requires sofar { Partly (T.model trellis.now) k row.now next.old (turn s bit) }
+    ensures { Partly (T.model trellis.now) k row.now next.new (turn s bit + 1) }
 {
     let branch = trellis.branch(k, s, bit);
     let x = row[s] + branch.cost as u64;
@@ -24,12 +24,12 @@ fn push<T: Trellis>(trellis: &T, k: usize, s: usize, bit: bool, row: &[u64], nex
 
 // Follows both branches of a state; none where no path has reached it.
 fn push_state<T: Trellis>(trellis: &T, k: usize, s: usize, row: &[u64], next: &mut [u64])
-    requires early { k < (model trellis.now).stages }
-    requires low { s < (model trellis.now).states }
-    requires row_long { (model trellis.now).states ≤ length row.now }
-    requires next_long { (model trellis.now).states ≤ length next.old }
-    requires sofar { Partly (model trellis.now) k row.now next.old (2 * s) }
-    ensures { Partly (model trellis.now) k row.now next.new (2 * (s + 1)) }
+    requires early { k < (T.model trellis.now).stages }
+    requires low { s < (T.model trellis.now).states }
+    requires row_long { (T.model trellis.now).states ≤ length row.now }
+    requires next_long { (T.model trellis.now).states ≤ length next.old }
+    requires sofar { Partly (T.model trellis.now) k row.now next.old (2 * s) }
+    ensures { Partly (T.model trellis.now) k row.now next.new (2 * (s + 1)) }
 {
     if row[s] < CLOSED_BRANCH as u64 {
         push(trellis, k, s, false, row, next);
@@ -47,11 +47,11 @@ fn clear(next: &mut [u64], n: usize)
 }
 
 fn push_stage<T: Trellis>(trellis: &T, k: usize, row: &[u64], next: &mut [u64])
-    requires early { k < (model trellis.now).stages }
-    requires row_long { (model trellis.now).states ≤ length row.now }
-    requires next_long { (model trellis.now).states ≤ length next.old }
-    requires least { Leasts (model trellis.now) k row.now }
-    ensures { Leasts (model trellis.now) (k + 1) next.new }
+    requires early { k < (T.model trellis.now).stages }
+    requires row_long { (T.model trellis.now).states ≤ length row.now }
+    requires next_long { (T.model trellis.now).states ≤ length next.old }
+    requires least { Leasts (T.model trellis.now) k row.now }
+    ensures { Leasts (T.model trellis.now) (k + 1) next.new }
 {
     let n = trellis.states();
     clear(next, n);
@@ -64,8 +64,8 @@ fn push_stage<T: Trellis>(trellis: &T, k: usize, row: &[u64], next: &mut [u64])
 fn forward<T: Trellis>(trellis: &T, front: &mut [u64], back: &mut [u64])
     requires front_long { length front.old ≡ 4096 }
     requires back_long { length back.old ≡ 4096 }
-    requires least { Leasts (model trellis.now) 0 front.old }
-    ensures { Leasts (model trellis.now) (model trellis.now).stages front.new }
+    requires least { Leasts (T.model trellis.now) 0 front.old }
+    ensures { Leasts (T.model trellis.now) (T.model trellis.now).stages front.new }
 {
     let n = trellis.stages();
     let mut k = 0;
@@ -81,8 +81,8 @@ fn forward<T: Trellis>(trellis: &T, front: &mut [u64], back: &mut [u64])
 }
 
 fn best_cost<T: Trellis>(trellis: &T, row: &[u64]) -> Option<u32>
-    requires { (model trellis.now).states ≤ length row.now }
-    ensures { EndCost (model trellis.now) row.now result }
+    requires { (T.model trellis.now).states ≤ length row.now }
+    ensures { EndCost (T.model trellis.now) row.now result }
 {
     let mut best = CLOSED_BRANCH as u64;
     let mut at = 0;
@@ -113,7 +113,7 @@ fn first_costs(front: &mut [u64], start: usize)
 // The search for the cost alone: two rows of costs.
 pub(crate) fn search_cost<T: Trellis>(trellis: &T, work: &mut [u64]) -> Option<u32>
     requires { 8192 ≤ length work.old }
-    ensures { Costed (model trellis.now) result }
+    ensures { Costed (T.model trellis.now) result }
 {
     let (front, rest) = work.split_at_mut(ROW_WORDS);
     let (back, _) = rest.split_at_mut(ROW_WORDS);

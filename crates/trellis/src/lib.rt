@@ -1,5 +1,6 @@
 //! One search for every trellis: the least cost of a path, and the first path of that cost where it is wanted.
 #![tactic(auto)]
+
 mod costs;
 mod lane;
 mod searching;

@@ -26,7 +26,7 @@ pub fn search<T: Trellis>(
     ensures answer { refused result ≡ first (search_rows (length work.old)) }
     ensures work_kept { is_ok result ≡ false → work.new ≡ work.old }
     ensures path_kept { is_ok result ≡ false → path.new ≡ path.old }
-    ensures found { IfOk result (λ x. Found (model trellis.now) path.old path.new x) }
+    ensures found { IfOk result (λ x. Found (T.model trellis.now) path.old path.new x) }
 {
     if work.len() < WORK_WORDS {
         return Err(Refusal::Memory);

@@ -9,9 +9,9 @@ use crate::trellis::{CLOSED_BRANCH, CLOSED_ENTRY, Entry, Trellis};
 
 // An entry of a lane; a lane that is no state has none.
 fn lane_entry<T: Trellis>(trellis: &T, k: usize, t: usize, second: bool) -> Entry
-    requires on { (model trellis.now).wanted ≡ true }
-    requires early { k < (model trellis.now).stages }
-    ensures { Enters (model trellis.now).states (into (model trellis.now) k t second) result.from result.bit result.cost }
+    requires on { (T.model trellis.now).wanted ≡ true }
+    requires early { k < (T.model trellis.now).stages }
+    ensures { Enters (T.model trellis.now).states (into (T.model trellis.now) k t second) result.from result.bit result.cost }
 {
     if t < trellis.states() {
         trellis.entry(k, t, second)
@@ -26,11 +26,11 @@ fn lane_entry<T: Trellis>(trellis: &T, k: usize, t: usize, second: bool) -> Entr
 
 // The cost of the best path by one entry of a lane.
 fn candidate<T: Trellis, L: Lane>(trellis: &T, k: usize, t: usize, second: bool, row: &[L; 64]) -> L
-    requires on { (model trellis.now).wanted ≡ true }
-    requires early { k < (model trellis.now).stages }
+    requires on { (T.model trellis.now).wanted ≡ true }
+    requires early { k < (T.model trellis.now).stages }
     requires capped { Capped (values L.Lane.value row.now) }
-    requires room { Room (model trellis.now) k (values L.Lane.value row.now) L.Lane.top }
-    ensures { Alike (L.Lane.value result) (via (values L.Lane.value row.now) (into (model trellis.now) k t second)) }
+    requires room { Room (T.model trellis.now) k (values L.Lane.value row.now) L.Lane.top }
+    ensures { Alike (L.Lane.value result) (via (values L.Lane.value row.now) (into (T.model trellis.now) k t second)) }
 {
     let e = lane_entry(trellis, k, t, second);
     row[e.from].plus(e.cost)
@@ -46,15 +46,15 @@ fn pair_candidates<T: Trellis, L: Lane>(
     a: &mut [L; 64],
     b: &mut [L; 64],
 )
-    requires on { (model trellis.now).wanted ≡ true }
-    requires early { k < (model trellis.now).stages }
+    requires on { (T.model trellis.now).wanted ≡ true }
+    requires early { k < (T.model trellis.now).stages }
     requires low { h < 32 }
     requires capped { Capped (values L.Lane.value row.now) }
-    requires room { Room (model trellis.now) k (values L.Lane.value row.now) L.Lane.top }
-    requires first { Candidates (model trellis.now) k false (values L.Lane.value row.now) (values L.Lane.value a.old) (2 * h) }
-    requires second { Candidates (model trellis.now) k true (values L.Lane.value row.now) (values L.Lane.value b.old) (2 * h) }
-    ensures first { Candidates (model trellis.now) k false (values L.Lane.value row.now) (values L.Lane.value a.new) (2 * (h + 1)) }
-    ensures second { Candidates (model trellis.now) k true (values L.Lane.value row.now) (values L.Lane.value b.new) (2 * (h + 1)) }
+    requires room { Room (T.model trellis.now) k (values L.Lane.value row.now) L.Lane.top }
+    requires first { Candidates (T.model trellis.now) k false (values L.Lane.value row.now) (values L.Lane.value a.old) (2 * h) }
+    requires second { Candidates (T.model trellis.now) k true (values L.Lane.value row.now) (values L.Lane.value b.old) (2 * h) }
+    ensures first { Candidates (T.model trellis.now) k false (values L.Lane.value row.now) (values L.Lane.value a.new) (2 * (h + 1)) }
+    ensures second { Candidates (T.model trellis.now) k true (values L.Lane.value row.now) (values L.Lane.value b.new) (2 * (h + 1)) }
 {
     let t = 2 * h;
     let even_first = candidate(trellis, k, t, false, row);
@@ -75,12 +75,12 @@ fn candidates<T: Trellis, L: Lane>(
     a: &mut [L; 64],
     b: &mut [L; 64],
 )
-    requires on { (model trellis.now).wanted ≡ true }
-    requires early { k < (model trellis.now).stages }
+    requires on { (T.model trellis.now).wanted ≡ true }
+    requires early { k < (T.model trellis.now).stages }
     requires capped { Capped (values L.Lane.value row.now) }
-    requires room { Room (model trellis.now) k (values L.Lane.value row.now) L.Lane.top }
-    ensures first { Candidates (model trellis.now) k false (values L.Lane.value row.now) (values L.Lane.value a.new) 64 }
-    ensures second { Candidates (model trellis.now) k true (values L.Lane.value row.now) (values L.Lane.value b.new) 64 }
+    requires room { Room (T.model trellis.now) k (values L.Lane.value row.now) L.Lane.top }
+    ensures first { Candidates (T.model trellis.now) k false (values L.Lane.value row.now) (values L.Lane.value a.new) 64 }
+    ensures second { Candidates (T.model trellis.now) k true (values L.Lane.value row.now) (values L.Lane.value b.new) 64 }
 {
     for h in 0..32usize {
         pair_candidates(trellis, k, h, row, a, b);
@@ -95,12 +95,12 @@ fn advance<T: Trellis, L: Lane>(
     row: &[L; 64],
     next: &mut [L; 64],
 )
-    requires below { Below (model trellis.now) L.Lane.top }
-    requires on { (model trellis.now).wanted ≡ true }
-    requires early { k < (model trellis.now).stages }
+    requires below { Below (T.model trellis.now) L.Lane.top }
+    requires on { (T.model trellis.now).wanted ≡ true }
+    requires early { k < (T.model trellis.now).stages }
     requires room { k < length work.old }
-    requires reached { Reached (model trellis.now) work.old k (values L.Lane.value row.now) }
-    ensures { Reached (model trellis.now) work.new (k + 1) (values L.Lane.value next.new) }
+    requires reached { Reached (T.model trellis.now) work.old k (values L.Lane.value row.now) }
+    ensures { Reached (T.model trellis.now) work.new (k + 1) (values L.Lane.value next.new) }
 {
     // of their own, so that nothing aliases
     let mut a = L::blank();
@@ -111,11 +111,11 @@ fn advance<T: Trellis, L: Lane>(
 
 // All stages; two a turn, so that no row is copied.
 fn forward<T: Trellis, L: Lane>(trellis: &T, work: &mut [u64], row: &mut [L; 64])
-    requires below { Below (model trellis.now) L.Lane.top }
-    requires on { (model trellis.now).wanted ≡ true }
-    requires room { (model trellis.now).stages ≤ length work.old }
-    requires reached { Reached (model trellis.now) work.old 0 (values L.Lane.value row.old) }
-    ensures { Reached (model trellis.now) work.new (model trellis.now).stages (values L.Lane.value row.new) }
+    requires below { Below (T.model trellis.now) L.Lane.top }
+    requires on { (T.model trellis.now).wanted ≡ true }
+    requires room { (T.model trellis.now).stages ≤ length work.old }
+    requires reached { Reached (T.model trellis.now) work.old 0 (values L.Lane.value row.old) }
+    ensures { Reached (T.model trellis.now) work.new (T.model trellis.now).stages (values L.Lane.value row.new) }
 {
     let n = trellis.stages();
     let mut other = L::blank();
@@ -146,11 +146,11 @@ fn last_row<T: Trellis, L: Lane>(
     lanes: &mut [L; 64],
     row: &mut [u32; 64],
 )
-    requires below { Below (model trellis.now) L.Lane.top }
-    requires on { (model trellis.now).wanted ≡ true }
-    requires room { (model trellis.now).stages ≤ length work.old }
+    requires below { Below (T.model trellis.now) L.Lane.top }
+    requires on { (T.model trellis.now).wanted ≡ true }
+    requires room { (T.model trellis.now).stages ≤ length work.old }
     requires blank { (t : ℕ) → t < 64 → slice_index (values L.Lane.value lanes.old) t ≡ 536870912 }
-    ensures { Reached (model trellis.now) work.new (model trellis.now).stages row.new }
+    ensures { Reached (T.model trellis.now) work.new (T.model trellis.now).stages row.new }
 {
     let start = trellis.start();
     lanes[start] = L::zero();
@@ -160,9 +160,9 @@ fn last_row<T: Trellis, L: Lane>(
 
 // The same in sixteen bits a cost where the trellis is narrow.
 fn any_last_row<T: Trellis>(trellis: &T, work: &mut [u64]) -> [u32; 64]
-    requires on { (model trellis.now).wanted ≡ true }
-    requires room { (model trellis.now).stages ≤ length work.old }
-    ensures { Reached (model trellis.now) work.new (model trellis.now).stages result }
+    requires on { (T.model trellis.now).wanted ≡ true }
+    requires room { (T.model trellis.now).stages ≤ length work.old }
+    ensures { Reached (T.model trellis.now) work.new (T.model trellis.now).stages result }
 {
     let mut row = [0u32; 64];
     if trellis.is_narrow() {
@@ -177,8 +177,8 @@ fn any_last_row<T: Trellis>(trellis: &T, work: &mut [u64]) -> [u32; 64]
 
 // The end that the path is to have: the cheapest, and of several the lowest.
 fn best_end<T: Trellis>(trellis: &T, row: &[u32; 64]) -> Option<usize>
-    requires on { (model trellis.now).wanted ≡ true }
-    ensures { End (model trellis.now) row.now result }
+    requires on { (T.model trellis.now).wanted ≡ true }
+    ensures { End (T.model trellis.now) row.now result }
 {
     let mut best = CLOSED_BRANCH;
     let mut at = 0;
@@ -195,13 +195,13 @@ fn best_end<T: Trellis>(trellis: &T, row: &[u32; 64]) -> Option<usize>
 
 // Writes the path that the survivors hold back from the end.
 fn trace_back<T: Trellis>(trellis: &T, work: &[u64], end: usize, path: &mut [bool])
-    requires on { (model trellis.now).wanted ≡ true }
-    requires room { (model trellis.now).stages ≤ length work.now }
-    requires long { (model trellis.now).stages ≤ length path.old }
-    requires low { end < (model trellis.now).states }
-    requires trail { Trail (model trellis.now) work.now (model trellis.now).stages end }
-    ensures written { (j : ℕ) → j < (model trellis.now).stages → slice_index_or path.new j false ≡ trace (model trellis.now) work.now (model trellis.now).stages end j }
-    ensures kept { Kept (model trellis.now).stages path.old path.new }
+    requires on { (T.model trellis.now).wanted ≡ true }
+    requires room { (T.model trellis.now).stages ≤ length work.now }
+    requires long { (T.model trellis.now).stages ≤ length path.old }
+    requires low { end < (T.model trellis.now).states }
+    requires trail { Trail (T.model trellis.now) work.now (T.model trellis.now).stages end }
+    ensures written { (j : ℕ) → j < (T.model trellis.now).stages → slice_index_or path.new j false ≡ trace (T.model trellis.now) work.now (T.model trellis.now).stages end j }
+    ensures kept { Kept (T.model trellis.now).stages path.old path.new }
 {
     let mut k = trellis.stages();
     let mut t = end;
@@ -220,10 +220,10 @@ pub(crate) fn search_path<T: Trellis>(
     work: &mut [u64],
     path: &mut [bool],
 ) -> Option<u32>
-    requires on { (model trellis.now).wanted ≡ true }
-    requires room { (model trellis.now).stages ≤ length work.old }
-    requires long { (model trellis.now).stages ≤ length path.old }
-    ensures { Found (model trellis.now) path.old path.new result }
+    requires on { (T.model trellis.now).wanted ≡ true }
+    requires room { (T.model trellis.now).stages ≤ length work.old }
+    requires long { (T.model trellis.now).stages ≤ length path.old }
+    ensures { Found (T.model trellis.now) path.old path.new result }
 {
     let row = any_last_row(trellis, work);
     match best_end(trellis, &row) {

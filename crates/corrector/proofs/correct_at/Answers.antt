@@ -1,5 +1,5 @@
-use Rattle.std.proofs.Common.{◌≡◌, ℕ, ◌+◌, ◌-◌, ◌*◌, List, length, sym, ◌∙◌, subst, arith, rules, MatchOption}
-use borrow.Rule.Slice.PartMut.{mid_of, put_mid, mid_len}
+use Rattle.std.proofs.Common.{◌≡◌, ℕ, ◌+◌, ◌-◌, ◌*◌, List, length, sym, subst, rules, MatchOption}
+use borrow.Rule.Slice.PartMut.{mid_of, put_mid}
 use Rattle.words.specs.Words.{word, part}
 use Rattle.outer_theory.specs.Correction.{Corrected, Refused}
 use Rattle.corrector.proofs.Slices.{part_mid, part_put, put_before, put_behind}

@@ -9,12 +9,12 @@ use Rattle.corrector.proofs.repair.Goals.{else-wrong-most-via-then-wrong-most+el
 pub returns-then-explain : goal.returns-then-explain
 returns-then-explain c =
     let b : AreBytes c.args.block.now = search rules in
-    let bn : AreBytes c.add-errors.new.block = search rules in
-    let ln : length c.add-errors.new.block ≡ length c.args.block.now = search rules in
+    let bn : AreBytes c.add_errors.new.block = search rules in
+    let ln : length c.add_errors.new.block ≡ length c.args.block.now = search rules in
     accepted c.args.size c.args.limit c.args.most c.requires.few c.requires.short c.requires.within c.args.block.now c.requires.long b
-    c.add-errors.new.block c.errors-of-errors.result c.nonzero-wrong.result ln bn
+    c.add_errors.new.block c.errors_of-errors.result c.nonzero-wrong.result ln bn
     (λ j l. sym (c.requires.syndromes j l) ∙ c.explain.ensures.yes c.if-explain.true j l)
-    c.add-errors.ensures c.nonzero-wrong.ensures c.if-wrong-most.true
+    c.add_errors.ensures c.nonzero-wrong.ensures c.if-wrong-most.true
 
 pub returns-else-wrong-most : goal.returns-else-wrong-most
 returns-else-wrong-most c =
@@ -23,9 +23,9 @@ returns-else-wrong-most c =
     let ba : AreBytes c.locator-coefficients.result = search rules in
     record {
       none = refused c.args.size c.args.limit c.args.most c.requires.few c.requires.short c.requires.within c.args.block.now c.requires.long b
-          c.args.given.now c.locator-coefficients.result c.marks-of-marks.result c.requires.syndromes la ba
-          c.locator-coefficients.ensures.one c.locator-coefficients.ensures.vanish c.marks-of-marks.ensures
-          c.errors-of-errors.result c.nonzero-wrong.result c.errors-of-errors.ensures c.nonzero-wrong.ensures
+          c.args.given.now c.locator-coefficients.result c.marks_of-marks.result c.requires.syndromes la ba
+          c.locator-coefficients.ensures.one c.locator-coefficients.ensures.vanish c.marks_of-marks.ensures
+          c.errors_of-errors.result c.nonzero-wrong.result c.errors_of-errors.ensures c.nonzero-wrong.ensures
           (elim c.else-wrong-most.branch [
             | else-wrong-most-via-then-wrong-most+else-explain v ↦ inr (v.explain.ensures.no v.if-explain.false)
             | else-wrong-most-via-else-wrong-most v ↦ inl v.if-wrong-most.false

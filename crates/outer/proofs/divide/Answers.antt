@@ -7,5 +7,5 @@ returns-then-feedback-eq0 c =
 
 pub returns-else-feedback-eq0 : goal.returns-else-feedback-eq0
 returns-else-feedback-eq0 c =
-    step_added c.args.rest.now c.shift-and-add.new.rest c.args.byte c.told-rest c.shift-and-add.array_long
-    c.log.result c.log.ensures.exponent c.shift-and-add.ensures
+    step_added c.args.rest.now c.shift_and_add.new.rest c.args.byte c.told-rest c.shift_and_add.array_long
+    c.log.result c.log.ensures.exponent c.shift_and_add.ensures

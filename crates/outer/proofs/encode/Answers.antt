@@ -4,8 +4,8 @@ use Rattle.words.specs.Words.{Bytes, word}
 use Rattle.outer.proofs.Encoding.{Written, block_fits, written_more, written_outer}
 use Rattle.outer.proofs.encode.Goals as goal
 
-pub encode-block-requires : goal.encode-block-requires
-encode-block-requires c =
+pub encode_block-requires : goal.encode_block-requires
+encode_block-requires c =
     let message_fits = block_fits c.args.size c.loop-b.b c.args.count c.loop-b-test.true in
     let coded_fits = block_fits (2 * c.args.limit + c.args.size) c.loop-b.b c.args.count c.loop-b-test.true in
     record { some = c.requires.some; few = c.requires.few; there = omega (arith, message_fits, c.requires.there); room = omega (arith, coded_fits, c.requires.room, c.loop-b.auto.coded) }
@@ -13,8 +13,8 @@ encode-block-requires c =
 pub loop-b-preserved : goal.loop-b-preserved
 loop-b-preserved c =
     written_more (blocks c.args.size c.args.limit (word c.args.message.now)) (2 * c.args.limit + c.args.size) c.loop-b.b
-    c.args.coded.now c.loop-b.coded c.encode-block.new.coded
-    c.loop-b.invariant c.encode-block.ensures.coded c.encode-block.ensures.kept c.encode-block.ensures.past
+    c.args.coded.now c.loop-b.coded c.encode_block.new.coded
+    c.loop-b.invariant c.encode_block.ensures.coded c.encode_block.ensures.kept c.encode_block.ensures.past
 
 pub returns : goal.returns
 returns c =

@@ -12,8 +12,8 @@ returns-in-Some c =
     let f = found_nearest c.period-period.result (period c.args.rate) c.args.periods (flags c.args.heard.now) _ _ c.in-Ok.found c.in-Some.wrong (rated_as c.period-period.result c.args.rate c.period-period.ensures) c.period-period.ensures c.in-Ok.ensures.found c.in-Some.is in
     record {
       answer = c.in-Ok.ensures.answer;
-      work-kept = c.in-Ok.ensures.work-kept;
-      path-kept = c.in-Ok.ensures.path-kept;
+      work_kept = c.in-Ok.ensures.work_kept;
+      path_kept = c.in-Ok.ensures.path_kept;
       nearest = f.is_nearest;
       count = f.count;
       past = f.past;

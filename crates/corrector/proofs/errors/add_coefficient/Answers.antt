@@ -4,7 +4,7 @@ use Rattle.std.proofs.Common.{get_or}
 
 pub returns-then-coefficient-ne0 : goal.returns-then-coefficient-ne0
 returns-then-coefficient-ne0 c m h =
-    coefficient_log c.log.result c.args.coefficient c.args.l m (get_or c.args.values.now m 0) _ c.log.ensures.exponent (c.add-powers.ensures m h)
+    coefficient_log c.log.result c.args.coefficient c.args.l m (get_or c.args.values.now m 0) _ c.log.ensures.exponent (c.add_powers.ensures m h)
 
 pub returns-else-coefficient-ne0 : goal.returns-else-coefficient-ne0
 returns-else-coefficient-ne0 c m h = coefficient_none c.args.coefficient c.args.l m (get_or c.args.values.now m 0) c.if-coefficient-ne0.false

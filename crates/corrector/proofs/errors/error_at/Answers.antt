@@ -9,7 +9,7 @@ use Rattle.corrector.proofs.errors.error_at.Goals.{then-i-k+then-marks-i-eq0, el
 pub loop-i-init : goal.loop-i-init
 loop-i-init c =
     folding_start c.args.limit c.args.n c.args.k (omega arith) (omega arith) (omega arith) (omega arith) c.args.syndromes.now c.args.marks.now c.power-divisor.result c.told-syndromes
-    (c.power-divisor.ensures ∙ c.weight-log.ensures.is ∙ ap (λ (m : ℕ). weight (16 - 2 * c.args.limit) (m + (16 - 2 * c.args.limit))) c.place-m.ensures.is)
+    (c.power-divisor.ensures ∙ c.weight_log.ensures.is ∙ ap (λ (m : ℕ). weight (16 - 2 * c.args.limit) (m + (16 - 2 * c.args.limit))) c.place-m.ensures.is)
 
 pub loop-i-preserved : goal.loop-i-preserved
 unfolding ◌⊕◌

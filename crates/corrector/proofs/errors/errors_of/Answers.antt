@@ -5,7 +5,7 @@ use Rattle.corrector.proofs.errors.errors_of.Goals as goal
 pub loop-k-preserved : goal.loop-k-preserved
 loop-k-preserved c = (
   length-set c.loop-k.errors c.loop-k.k _ ∙ c.loop-k.invariant.0,
-  λ e E. filled_more c.loop-k.errors c.loop-k.k c.error-of.result e (omega arith) (c.loop-k.invariant.1 e E) (c.error-of.ensures e E),
+  λ e E. filled_more c.loop-k.errors c.loop-k.k c.error_of.result e (omega arith) (c.loop-k.invariant.1 e E) (c.error_of.ensures e E),
 )
 
 pub returns : goal.returns

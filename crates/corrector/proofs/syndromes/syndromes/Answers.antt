@@ -7,7 +7,7 @@ pub loop-i-init : goal.loop-i-init
 loop-i-init c = summed_start c.args.parity c.args.n (word c.args.block.now) c.requires.few
 
 pub loop-i-preserved : goal.loop-i-preserved
-loop-i-preserved c = summed_more c.args.parity c.args.n (word c.args.block.now) c.loop-i.sums c.add-byte.new.syndromes c.loop-i.i c.taken-k.result c.taken-k.ensures.is c.add-byte.ensures c.loop-i.invariant
+loop-i-preserved c = summed_more c.args.parity c.args.n (word c.args.block.now) c.loop-i.sums c.add_byte.new.syndromes c.loop-i.i c.taken-k.result c.taken-k.ensures.is c.add_byte.ensures c.loop-i.invariant
 
 pub returns : goal.returns
 returns c = summed_end c.args.parity c.args.n (word c.args.block.now) c.loop-i.sums c.loop-i.i c.requires.some (omega arith) c.loop-i.invariant

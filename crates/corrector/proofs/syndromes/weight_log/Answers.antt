@@ -7,7 +7,7 @@ use Rattle.corrector.proofs.syndromes.weight_log.Goals as goal
 pub returns : goal.returns
 unfolding triangles triangle
 returns c = record {
-  is = ap (λ (t : ℕ). gexp ((t + c.product-log.result + 255 - c.product-log-2.result) % 255)) (triangle_at c.args.e c.requires.few)
-      ∙ weight_log_lem c.args.e c.args.place c.product-log.result c.product-log-2.result c.product-log.ensures.is c.product-log-2.ensures.is (omega (arith, c.product-log-2.ensures.low));
+  is = ap (λ (t : ℕ). gexp ((t + c.product_log.result + 255 - c.product_log-2.result) % 255)) (triangle_at c.args.e c.requires.few)
+      ∙ weight_log_lem c.args.e c.args.place c.product_log.result c.product_log-2.result c.product_log.ensures.is c.product_log-2.ensures.is (omega (arith, c.product_log-2.ensures.low));
   low = omega arith;
 }

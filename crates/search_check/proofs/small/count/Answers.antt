@@ -1,4 +1,4 @@
-use Rattle.std.proofs.Common.{◌≡◌, true, false, sym, refl, ap, ◌∙◌, arith}
+use Rattle.std.proofs.Common.{true, false, sym, ◌∙◌, arith}
 use Rattle.search_check.proofs.Steps.{count_none, count_step}
 use Rattle.search_check.proofs.small.count.Goals as goal
 use Rattle.search_check.proofs.small.count.Goals.{then-leads, else-leads}

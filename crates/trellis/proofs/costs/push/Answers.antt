@@ -7,8 +7,8 @@ bounds-next-branch g c =
     let w = branch_within _ (g.T.Trellis.lawful c.args.trellis.now) _ _ _ _ _ c.requires.early c.requires.low c.branch-branch.ensures in
     omega arith
 
-pub offset-bounds-next-branch : goal.offset-bounds-next-branch
-offset-bounds-next-branch g c =
+pub offset_bounds-next-branch : goal.offset_bounds-next-branch
+offset_bounds-next-branch g c =
     let law = g.T.Trellis.lawful c.args.trellis.now in
     let few = law.few_states in
     let w = branch_within _ law _ _ _ _ _ c.requires.early c.requires.low c.branch-branch.ensures in
@@ -19,8 +19,8 @@ bounds-next-branch-2 g c =
     let w = branch_within _ (g.T.Trellis.lawful c.args.trellis.now) _ _ _ _ _ c.requires.early c.requires.low c.branch-branch.ensures in
     omega arith
 
-pub offset-bounds-next-branch-2 : goal.offset-bounds-next-branch-2
-offset-bounds-next-branch-2 g c =
+pub offset_bounds-next-branch-2 : goal.offset_bounds-next-branch-2
+offset_bounds-next-branch-2 g c =
     let law = g.T.Trellis.lawful c.args.trellis.now in
     let few = law.few_states in
     let w = branch_within _ law _ _ _ _ _ c.requires.early c.requires.low c.branch-branch.ensures in

@@ -2,12 +2,28 @@ use Rattle.std.proofs.Common.{arith, rules}
 use Rattle.paths.proofs.CostEnds.{start_leasts, costed}
 use Rattle.trellis.proofs.costs.search_cost.Goals as goal
 
+pub first_costs-requires : goal.first_costs-requires
+first_costs-requires g c =
+    let law = g.T.Trellis.lawful c.args.trellis.now in
+    let few = law.few_states in
+    let within = law.start_within in
+    let front = c.split_at_mut-front.ensures.front_len in
+    let start = c.start.ensures in
+    (omega arith, omega arith)
+
 pub forward-requires : goal.forward-requires
 forward-requires g c = record {
   front_long = search rules;
   back_long = search rules;
-  least = start_leasts _ (g.T.Trellis.lawful c.args.trellis.now) _ c.start.result c.start.ensures c.first-costs.ensures.here c.first-costs.ensures.elsewhere;
+  least = start_leasts _ (g.T.Trellis.lawful c.args.trellis.now) _ c.start.result c.start.ensures c.first_costs.ensures.here c.first_costs.ensures.elsewhere;
 }
 
+pub best_cost-requires : goal.best_cost-requires
+best_cost-requires g c =
+    let law = g.T.Trellis.lawful c.args.trellis.now in
+    let few = law.few_states in
+    let front = c.split_at_mut-front.ensures.front_len in
+    omega arith
+
 pub returns : goal.returns
-returns g c = costed _ (g.T.Trellis.lawful c.args.trellis.now) _ c.forward.ensures c.best-cost.result c.best-cost.ensures
+returns g c = costed _ (g.T.Trellis.lawful c.args.trellis.now) _ c.forward.ensures c.best_cost.result c.best_cost.ensures

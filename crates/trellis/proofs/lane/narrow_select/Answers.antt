@@ -1,4 +1,4 @@
-use Rattle.std.proofs.Common.{◌≡◌, ℕ, ◌+◌, ◌*◌, ◌%◌, ◌^◌, min, Bool, false, List, [], refl, subst, arith}
+use Rattle.std.proofs.Common.{◌≡◌, ◌+◌, ◌*◌, ◌%◌, ◌^◌, min, [], refl, subst, arith}
 use lib.Bits.{bit_or}
 use Rattle.paths.proofs.Lanes.{Costs, Marks}
 use Rattle.paths.proofs.Lanewise.{costs_more, marks_more, marked}
@@ -10,8 +10,8 @@ loop-g-init c = (λ t h. absurd (omega arith), ([], refl, refl, λ j h. absurd (
 pub loop-g-preserved : goal.loop-g-preserved
 loop-g-preserved c =
     let e : 16 * c.loop-g.g + 16 ≡ 16 * (c.loop-g.g + 1) = omega arith in (
-      subst (λ n. Costs min c.args.a.now c.args.b.now c.narrow-chunk.new.next n) e (costs_more min _ _ _ _ _ _ c.narrow-chunk.ensures c.loop-g.invariant.0),
-      subst (λ n. Marks c.args.a.now c.args.b.now (bit_or c.loop-g.word ((c.narrow-chunk.result * 2 ^ (16 * c.loop-g.g)) % 2 ^ 64)) 0 n) e (marks_more _ _ c.loop-g.word c.narrow-chunk.result (16 * c.loop-g.g) (omega arith) c.loop-g.invariant.1 c.narrow-chunk.ensures.marks),
+      subst (λ n. Costs min c.args.a.now c.args.b.now c.narrow_chunk.new.next n) e (costs_more min _ _ _ _ _ _ c.narrow_chunk.ensures c.loop-g.invariant.0),
+      subst (λ n. Marks c.args.a.now c.args.b.now (bit_or c.loop-g.word ((c.narrow_chunk.result * 2 ^ (16 * c.loop-g.g)) % 2 ^ 64)) 0 n) e (marks_more _ _ c.loop-g.word c.narrow_chunk.result (16 * c.loop-g.g) (omega arith) c.loop-g.invariant.1 c.narrow_chunk.ensures.marks),
     )
 
 pub returns : goal.returns

@@ -1,4 +1,4 @@
-use Rattle.std.proofs.Common.{ℕ, ◌+◌, ◌*◌, ◌%◌, ◌^◌, min}
+use Rattle.std.proofs.Common.{◌*◌, min}
 use Rattle.paths.proofs.Lanes.{Costs, Marks}
 use Rattle.trellis.proofs.lane.narrow_select.Given as goal
 

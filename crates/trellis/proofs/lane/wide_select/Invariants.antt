@@ -1,4 +1,4 @@
-use Rattle.std.proofs.Common.{ℕ, ◌+◌, ◌*◌, ◌%◌, ◌^◌}
+use Rattle.std.proofs.Common.{◌*◌}
 use Rattle.paths.proofs.Lanes.{Costs, Marks, capped_min}
 use Rattle.trellis.proofs.lane.wide_select.Given as goal
 

@@ -1,4 +1,4 @@
-use Rattle.std.proofs.Common.{◌-◌, ◌<◌, ◌≤◌}
+use Rattle.std.proofs.Common.{◌-◌, ◌≤◌}
 use Rattle.paths.proofs.Lanes.{values}
 use Rattle.paths.proofs.Rows.{Reached}
 use Rattle.trellis.proofs.survivors.forward.Given as goal

@@ -1,4 +1,4 @@
-use Rattle.std.proofs.Common.{◌≡◌, ℕ, ◌<◌, ◌≤◌, length, ◌∙◌, arith, rules}
+use Rattle.std.proofs.Common.{◌<◌, length, ◌∙◌, arith, rules}
 use Rattle.paths.proofs.Finish.{reached_same, start_reached_at}
 use Rattle.paths.proofs.Values.{values_same, values_other}
 use Rattle.trellis.proofs.survivors.last_row.Goals as goal
@@ -10,8 +10,8 @@ bounds-lanes-start g c =
     let start = law.start_within in
     omega arith
 
-pub offset-bounds-lanes-start : goal.offset-bounds-lanes-start
-offset-bounds-lanes-start g c =
+pub offset_bounds-lanes-start : goal.offset_bounds-lanes-start
+offset_bounds-lanes-start g c =
     let law = g.T.Trellis.lawful c.args.trellis.now in
     let few = law.wanted_few c.requires.on in
     let start = law.start_within in
@@ -49,4 +49,4 @@ forward-requires g c =
     )
 
 pub returns : goal.returns
-returns g c = reached_same _ _ _ _ _ c.costs-of.ensures c.forward.ensures
+returns g c = reached_same _ _ _ _ _ c.costs_of.ensures c.forward.ensures

@@ -1,4 +1,4 @@
-use Rattle.std.proofs.Common.{◌+◌, ◌*◌, ◌<◌, true, false, length, arith, rules}
+use Rattle.std.proofs.Common.{◌+◌, ◌*◌, ◌<◌, true, false, length, rules}
 use Rattle.paths.proofs.Lanes.{values}
 use Rattle.paths.proofs.Values.{candidates_two}
 use Rattle.trellis.proofs.survivors.pair_candidates.Goals as goal
@@ -10,6 +10,6 @@ returns g c =
     let m = g.T.Trellis.model c.args.trellis.now in
     let row = values g.L.Lane.value c.args.row.now in
     record {
-      first = candidates_two g.L.Lane.value m c.args.k false row c.args.a.now c.args.h _ _ la c.requires.first c.candidate-even-first.ensures c.candidate-odd-first.ensures;
-      second = candidates_two g.L.Lane.value m c.args.k true row c.args.b.now c.args.h _ _ lb c.requires.second c.candidate-even-second.ensures c.candidate-odd-second.ensures;
+      first = candidates_two g.L.Lane.value m c.args.k false row c.args.a.now c.args.h _ _ la c.requires.first c.candidate-even_first.ensures c.candidate-odd_first.ensures;
+      second = candidates_two g.L.Lane.value m c.args.k true row c.args.b.now c.args.h _ _ lb c.requires.second c.candidate-even_second.ensures c.candidate-odd_second.ensures;
     }

@@ -2,8 +2,8 @@ use Rattle.std.proofs.Common.{◌<◌, arith}
 use Rattle.paths.proofs.Finish.{found_none, found_path}
 use Rattle.trellis.proofs.survivors.search_path.Goals as goal
 
-pub trace-back-requires : goal.trace-back-requires
-trace-back-requires g c =
+pub trace_back-requires : goal.trace_back-requires
+trace_back-requires g c =
     let law = g.T.Trellis.lawful c.args.trellis.now in
     let few = law.wanted_few c.requires.on in
     let ch = c.in-Some.ensures in
@@ -14,7 +14,7 @@ trace-back-requires g c =
       room = omega arith;
       long = c.requires.long;
       low = w;
-      trail = c.any-last-row-row.ensures.trail c.in-Some.t low ch.reached;
+      trail = c.any_last_row-row.ensures.trail c.in-Some.t low ch.reached;
     }
 
 pub bounds-row-t : goal.bounds-row-t
@@ -25,7 +25,7 @@ bounds-row-t g c =
     omega arith
 
 pub returns-in-None : goal.returns-in-None
-returns-in-None g c = found_none _ (g.T.Trellis.lawful c.args.trellis.now) c.requires.on _ _ _ c.any-last-row-row.ensures c.in-None.ensures
+returns-in-None g c = found_none _ (g.T.Trellis.lawful c.args.trellis.now) c.requires.on _ _ _ c.any_last_row-row.ensures c.in-None.ensures
 
 pub returns-in-Some : goal.returns-in-Some
-returns-in-Some g c = found_path _ (g.T.Trellis.lawful c.args.trellis.now) c.requires.on _ _ _ _ _ c.any-last-row-row.ensures c.in-Some.ensures c.trace-back.ensures.written c.trace-back.ensures.kept
+returns-in-Some g c = found_path _ (g.T.Trellis.lawful c.args.trellis.now) c.requires.on _ _ _ _ _ c.any_last_row-row.ensures c.in-Some.ensures c.trace_back.ensures.written c.trace_back.ensures.kept

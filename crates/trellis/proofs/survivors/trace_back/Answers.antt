@@ -5,8 +5,8 @@ use Rattle.trellis.proofs.survivors.trace_back.Goals as goal
 pub loop-k-init : goal.loop-k-init
 loop-k-init g c = traced_start _ _ _ _ _ c.stages-k.ensures c.requires.low c.requires.trail
 
-pub overflow-shr-second : goal.overflow-shr-second
-overflow-shr-second g c =
+pub overflow_shr-second : goal.overflow_shr-second
+overflow_shr-second g c =
     let few = (g.T.Trellis.lawful c.args.trellis.now).wanted_few c.requires.on in
     let low = c.loop-k.invariant.low in
     omega arith

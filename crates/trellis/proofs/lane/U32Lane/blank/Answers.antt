@@ -1,4 +1,4 @@
-use Rattle.std.proofs.Common.{◌≡◌, ℕ, ◌<◌, replicate, refl, ap, ◌∙◌}
+use Rattle.std.proofs.Common.{ℕ, replicate, refl, ap, ◌∙◌}
 use Rattle.std.proofs.lemmas.Simd.{get_or-replicate}
 use Rattle.paths.proofs.Values.{get_or_values0}
 use Rattle.trellis.proofs.lane.U32Lane.blank.Goals as goal

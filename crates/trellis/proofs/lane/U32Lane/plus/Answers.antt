@@ -1,4 +1,4 @@
-use Rattle.std.proofs.Common.{◌≤◌, arith, rules}
+use Rattle.std.proofs.Common.{◌≤◌, rules}
 use Rattle.paths.proofs.Values.{wide_high}
 use Rattle.trellis.proofs.lane.U32Lane.plus.Goals as goal
 
