@@ -1,5 +1,6 @@
 //! The sending chain: from the data of a request to the points of its burst.
 #![tactic(auto)]
+
 mod bits;
 mod bytes;
 mod encoding;

@@ -12,7 +12,7 @@ pub encode-requires : goal.encode-requires
 encode-requires c =
     let f = c.profile-profile.ensures.fits in
     let few : c.symbols.result ≤ 8 = search rules in
-    let long : length c.write-blocks.new.out ≡ 960 = search rules in
+    let long : length c.write_blocks.new.out ≡ 960 = search rules in
     let b = within c.symbols.result c.profile-profile.result.block 120 few f.short in
     let p = counted c.profile-profile.result c.symbols.result c.period.result f c.period.ensures in
     let n = few_bits c.profile-profile.result.bits c.symbols.result f.modulation few in
@@ -21,10 +21,10 @@ encode-requires c =
 pub returns : goal.returns
 returns c =
     let e : c.profile-profile.result ≡ profiled (asked c.args.order) = c.profile-profile.ensures.value in
-    coded_done (asked c.args.order) c.args.payload.now c.write-blocks.new.out c.encode.new.coded (8 * (c.symbols.result * c.profile-profile.result.block) / c.period.result)
+    coded_done (asked c.args.order) c.args.payload.now c.write_blocks.new.out c.encode.new.coded (8 * (c.symbols.result * c.profile-profile.result.block) / c.period.result)
     (subst (λ (n : ℕ). Periods (period (profiled (asked c.args.order)).inner) n (profiled (asked c.args.order)).block (profiled (asked c.args.order)).bits (8 * (c.symbols.result * c.profile-profile.result.block) / c.period.result)) c.symbols.ensures
     (subst (λ (p : Profile). Periods (period p.inner) c.symbols.result p.block p.bits (8 * (c.symbols.result * c.profile-profile.result.block) / c.period.result)) e
     (counted c.profile-profile.result c.symbols.result c.period.result c.profile-profile.ensures.fits c.period.ensures)))
-    c.write-blocks.ensures
-    (subst (λ (p : Profile). (j : ℕ) → j < (period p.inner + 1) * (8 * (c.symbols.result * c.profile-profile.result.block) / c.period.result) → get_or c.encode.new.coded j false ≡ coded (period p.inner) (bits (word c.write-blocks.new.out)) j) e
+    c.write_blocks.ensures
+    (subst (λ (p : Profile). (j : ℕ) → j < (period p.inner + 1) * (8 * (c.symbols.result * c.profile-profile.result.block) / c.period.result) → get_or c.encode.new.coded j false ≡ coded (period p.inner) (bits (word c.write_blocks.new.out)) j) e
     c.encode.ensures.encoded)

@@ -9,6 +9,6 @@ returns c =
       answer = search rules;
       kept = search rules;
       count = search rules;
-      bits = subst (λ (r : Request). (j : ℕ) → j < burst_length r → get_or c.write-sent.new.sent j false ≡ sent r c.args.payload.now j) c.in-ok-order.ensures.order c.write-sent.ensures.bits;
-      past = subst (λ (r : Request). (j : ℕ) → burst_length r ≤ j → get_or c.write-sent.new.sent j false ≡ get_or c.args.sent.now j false) c.in-ok-order.ensures.order c.write-sent.ensures.past;
+      bits = subst (λ (r : Request). (j : ℕ) → j < burst_length r → get_or c.write_sent.new.sent j false ≡ sent r c.args.payload.now j) c.in_ok-order.ensures.order c.write_sent.ensures.bits;
+      past = subst (λ (r : Request). (j : ℕ) → burst_length r ≤ j → get_or c.write_sent.new.sent j false ≡ get_or c.args.sent.now j false) c.in_ok-order.ensures.order c.write_sent.ensures.past;
     }

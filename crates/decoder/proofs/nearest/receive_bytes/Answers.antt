@@ -13,7 +13,7 @@ pub nearest-requires : goal.nearest-requires
 nearest-requires c =
     let f = c.profile-profile.ensures.fits in
     let few : c.symbols.result ≤ 8 = search rules in
-    let long : length c.hear-coded.new.coded ≡ 9216 = search rules in
+    let long : length c.hear_coded.new.coded ≡ 9216 = search rules in
     let b = within c.symbols.result c.profile-profile.result.block 120 few f.short in
     let p = counted c.profile-profile.result c.symbols.result c.period.result f c.period.ensures in
     let n = few_bits c.profile-profile.result.bits c.symbols.result f.modulation few in
@@ -27,20 +27,20 @@ returns c =
     ∙ ap (λ (x : ℕ). 8 * (c.args.order.symbols * c.profile-profile.result.block) / x) c.period.ensures
     ∙ ap (λ (p : Profile). 8 * (c.args.order.symbols * p.block) / period p.inner) e in
     record {
-      answer = c.in-ok-wrong.ensures.answer;
+      answer = c.in_ok-wrong.ensures.answer;
       received =
           record {
-            heard = flags c.hear-coded.new.coded;
+            heard = flags c.hear_coded.new.coded;
             word = flags c.nearest.new.path;
             inner =
                 record {
-                  received = c.hear-coded.ensures;
-                  nearest = subst (λ (n : ℕ). Nearest (period (profiled (asked c.args.order)).inner) n (flags c.hear-coded.new.coded) (flags c.nearest.new.path)) q
-                      (subst (λ (p : Profile). Nearest (period p.inner) (8 * (c.symbols.result * c.profile-profile.result.block) / c.period.result) (flags c.hear-coded.new.coded) (flags c.nearest.new.path)) e c.in-ok-wrong.ensures.nearest);
+                  received = c.hear_coded.ensures;
+                  nearest = subst (λ (n : ℕ). Nearest (period (profiled (asked c.args.order)).inner) n (flags c.hear_coded.new.coded) (flags c.nearest.new.path)) q
+                      (subst (λ (p : Profile). Nearest (period p.inner) (8 * (c.symbols.result * c.profile-profile.result.block) / c.period.result) (flags c.hear_coded.new.coded) (flags c.nearest.new.path)) e c.in_ok-wrong.ensures.nearest);
                 };
             bytes_are = subst (λ (p : Profile). (i : ℕ) → i < c.args.order.symbols * p.block → get_or c.pack.new.bytes i 0 ≡ bytes (flags c.nearest.new.path) i) e
                 (subst (λ (n : ℕ). (i : ℕ) → i < n * c.profile-profile.result.block → get_or c.pack.new.bytes i 0 ≡ bytes (flags c.nearest.new.path) i) c.symbols.ensures c.pack.ensures);
-            wrong_is = subst (λ (n : ℕ). c.in-ok-wrong.wrong ≡ wrong (period (profiled (asked c.args.order)).inner) n (flags c.nearest.new.path) (flags c.hear-coded.new.coded)) q
-                (subst (λ (p : Profile). c.in-ok-wrong.wrong ≡ wrong (period p.inner) (8 * (c.symbols.result * c.profile-profile.result.block) / c.period.result) (flags c.nearest.new.path) (flags c.hear-coded.new.coded)) e c.in-ok-wrong.ensures.count);
+            wrong_is = subst (λ (n : ℕ). c.in_ok-wrong.wrong ≡ wrong (period (profiled (asked c.args.order)).inner) n (flags c.nearest.new.path) (flags c.hear_coded.new.coded)) q
+                (subst (λ (p : Profile). c.in_ok-wrong.wrong ≡ wrong (period p.inner) (8 * (c.symbols.result * c.profile-profile.result.block) / c.period.result) (flags c.nearest.new.path) (flags c.hear_coded.new.coded)) e c.in_ok-wrong.ensures.count);
           };
     }

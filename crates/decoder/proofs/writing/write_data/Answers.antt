@@ -10,8 +10,8 @@ use Rattle.decoder.specs.Blocks.{messages}
 use Rattle.decoder.proofs.Messages.{place, place_within}
 use Rattle.decoder.proofs.writing.write_data.Goals as goal
 
-pub copy-messages-requires : goal.copy-messages-requires
-copy-messages-requires c =
+pub copy_messages-requires : goal.copy_messages-requires
+copy_messages-requires c =
     let e : c.profile-profile.result ≡ profiled (asked c.args.order) = c.profile-profile.ensures.value in
     let f = c.profile-profile.ensures.fits in
     record {
@@ -30,10 +30,10 @@ returns c =
       written = λ i h.
           let l : i < c.capacity-count.result = omega (arith, c.capacity-count.ensures) in
           c.scramble.ensures.bytes i l
-          ∙ scrambled_same c.start-register.result (word c.copy-messages.new.out) (messages c.profile-profile.result.message c.profile-profile.result.limit (word c.args.blocks.now)) c.capacity-count.result c.copy-messages.ensures.copied i l
+          ∙ scrambled_same c.start-register.result (word c.copy_messages.new.out) (messages c.profile-profile.result.message c.profile-profile.result.limit (word c.args.blocks.now)) c.capacity-count.result c.copy_messages.ensures.copied i l
           ∙ ap (λ (p : Profile). scrambled c.start-register.result (messages p.message p.limit (word c.args.blocks.now)) i) e
           ∙ ap (λ (x : ℕ). scrambled x (messages (profiled (asked c.args.order)).message (profiled (asked c.args.order)).limit (word c.args.blocks.now)) i) (search rules);
       past = λ i h.
           let l : c.capacity-count.result ≤ i = omega (arith, c.capacity-count.ensures) in
-          c.scramble.ensures.rest i l ∙ c.copy-messages.ensures.past i l;
+          c.scramble.ensures.rest i l ∙ c.copy_messages.ensures.past i l;
     }

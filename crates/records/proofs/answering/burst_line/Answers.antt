@@ -8,6 +8,6 @@ made_also (Err y) P Q f h = h
 
 pub returns-in-Ok : goal.returns-in-Ok
 returns-in-Ok c =
-    made_also c.sent-line.result _ _
-    (λ s e. burst_sent c.args.place c.args.request c.args.payload.now c.burst-bits.new.sent c.in-Ok.count c.in-Ok.ensures.answer c.in-Ok.ensures.count c.in-Ok.ensures.bits (string_bytes s) e)
-    c.sent-line.ensures
+    made_also c.sent_line.result _ _
+    (λ s e. burst_sent c.args.place c.args.request c.args.payload.now c.burst_bits.new.sent c.in-Ok.count c.in-Ok.ensures.answer c.in-Ok.ensures.count c.in-Ok.ensures.bits (string_bytes s) e)
+    c.sent_line.ensures

@@ -10,6 +10,6 @@ loop-i-init c = sym (append-nil (string_bytes c.args.line.now))
 
 pub loop-i-preserved : goal.loop-i-preserved
 loop-i-preserved c =
-    hex_more (string_bytes c.args.line.now) (string_bytes c.loop-i.line) (string_bytes c.push.new.self) _ (flags c.args.bits.now) c.loop-i.i c.hex-digit.result c.nibble.result
-    c.loop-i.invariant c.in-ok-push.ensures.bytes (c.in-ok-push.ensures.ascii (glyph_ascii c.nibble.result c.hex-digit.result c.nibble.ensures.below c.hex-digit.ensures))
-    c.hex-digit.ensures c.nibble.ensures.value
+    hex_more (string_bytes c.args.line.now) (string_bytes c.loop-i.line) (string_bytes c.push.new.self) _ (flags c.args.bits.now) c.loop-i.i c.hex_digit.result c.nibble.result
+    c.loop-i.invariant c.in_ok-push.ensures.bytes (c.in_ok-push.ensures.ascii (glyph_ascii c.nibble.result c.hex_digit.result c.nibble.ensures.below c.hex_digit.ensures))
+    c.hex_digit.ensures c.nibble.ensures.value
