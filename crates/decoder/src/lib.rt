@@ -1,5 +1,6 @@
 //! The receiving chain: from the points of a burst to its data.
 #![tactic(auto)]
+
 mod blocks;
 mod decoding;
 mod hearing;

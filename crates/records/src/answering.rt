@@ -57,7 +57,7 @@ fn burst_line(
 // The line of a whole record, and how many bytes it takes.
 fn answer_whole(heap: Global, whole: Record<'_>) -> Result<(String, usize), AllocError>
     ensures line { IfOk result (λ a. string_bytes a.0 ≡ line (place_of whole.entry) (read_as whole.entry)) }
-    ensures used { made result (λ a. Some a.1 ≡ used (read_as whole.entry)) }
+    ensures used { IfOk result (λ a. Some a.1 ≡ used (read_as whole.entry)) }
 {
     match whole {
         Record::Bu {
@@ -78,7 +78,7 @@ pub fn answer_record(
     rest: &[u8],
 ) -> Result<(String, Option<usize>), AllocError>
     ensures line { IfOk result (λ a. string_bytes a.0 ≡ line place (head rest.now)) }
-    ensures used { made result (λ a. a.1 ≡ used (head rest.now)) }
+    ensures used { IfOk result (λ a. a.1 ≡ used (head rest.now)) }
 {
     match Record::read(place, rest) {
         Ok(whole) => {

@@ -1,5 +1,6 @@
 //! The rack program's records: how they are read, and the text that answers an input.
 #![tactic(auto)]
+
 mod answering;
 mod read;
 pub mod record;

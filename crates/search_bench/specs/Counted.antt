@@ -1,6 +1,6 @@
 -- A trellis of 2,560 states, of which the cost alone is wanted: where its branches lead and what they cost stands in tables.
 -- Assumes nothing.
-use Rattle.std.specs.Prelude.{◌≡◌, ℕ, ◌+◌, ◌*◌, ◌<◌, ◌≤◌, Bool, true, false, List, Some, None, slice_index}
+use Rattle.std.specs.Prelude.{ℕ, ◌+◌, ◌*◌, ◌<◌, ◌≤◌, true, false, List, Some, None, slice_index}
 use Rattle.paths.specs.Model.{Model}
 use Rattle.paths.specs.Registers.{digit}
 

@@ -1,8 +1,8 @@
 -- The trellis in tables keeps the laws.
 -- Assumes nothing.
-use Rattle.std.specs.Prelude.{◌≡◌, ℕ, ◌+◌, ◌*◌, ◌<◌, ◌≤◌, Bool, true, false, cond, List, Some, None, Option, slice_index_or, refl}
-use Rattle.std.proofs.Common.{sym, ap, ◌∙◌, arith}
-use Rattle.paths.specs.Model.{Model, Lawful}
+use Rattle.std.specs.Prelude.{◌≡◌, ℕ, ◌+◌, ◌*◌, ◌≤◌, true, false, cond, List, slice_index_or}
+use Rattle.std.proofs.Common.{ap, arith}
+use Rattle.paths.specs.Model.{Lawful}
 use Rattle.paths.specs.Registers.{digit}
 use Rattle.paths.proofs.Paths.{some_inj}
 use Rattle.search_bench.specs.Counted.{counted, Inside, Small}

@@ -1,6 +1,6 @@
 -- The trellis of a heard burst: each stage has a kind, and each kind a row of costs.
 -- Assumes nothing.
-use Rattle.std.specs.Prelude.{◌≡◌, ℕ, ◌+◌, ◌-◌, ◌*◌, ◌/◌, ◌%◌, ◌<◌, ◌≤◌, Bool, true, false, cond, List, length, ◌==◌, nat_eq, nat_lt, slice_index}
+use Rattle.std.specs.Prelude.{ℕ, ◌+◌, ◌-◌, ◌*◌, ◌/◌, ◌%◌, ◌<◌, ◌≤◌, Bool, false, cond, List, length, ◌==◌, nat_eq, nat_lt, slice_index}
 use Rattle.paths.specs.Model.{Model}
 use Rattle.paths.specs.Registers.{register}
 

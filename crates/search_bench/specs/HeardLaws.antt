@@ -1,10 +1,9 @@
 -- The trellis of a heard burst keeps the laws.
 -- Assumes nothing.
-use Rattle.std.specs.Prelude.{◌≡◌, ℕ, zero, suc, ◌+◌, ◌-◌, ◌*◌, ◌/◌, ◌%◌, ◌<◌, ◌≤◌, Bool, true, false, cond, List, length, ◌==◌, nat_eq, slice_index, refl}
-use Rattle.std.proofs.Common.{sym, ap, subst, ◌∙◌, arith, eq-eqb, ne_eqb}
-use Rattle.paths.specs.Model.{Model, Lawful}
-use Rattle.paths.specs.Registers.{digit, register}
-use Rattle.paths.proofs.Registers.{register_lawful, digit_low}
+use Rattle.std.specs.Prelude.{ℕ, ◌+◌, ◌-◌, ◌*◌, ◌/◌, ◌%◌, ◌<◌, ◌≤◌, Bool, true, false, cond, List, length, ◌==◌, nat_eq, slice_index}
+use Rattle.std.proofs.Common.{arith}
+use Rattle.paths.specs.Model.{Lawful}
+use Rattle.paths.proofs.Registers.{register_lawful}
 use Rattle.search_bench.specs.Heard.{flips, ended, price, heard, Fair, Low}
 
 -- a price is closed, or at most the total

@@ -1,5 +1,6 @@
 //! Times the search, where a word is given.
 #![tactic(auto)]
+
 mod counted;
 mod heard;
 mod tables;

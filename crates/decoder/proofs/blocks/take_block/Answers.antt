@@ -15,7 +15,7 @@ returns-in_err-wrong c =
     let f = subst Fitting e c.profile-profile.ensures.fits in
     let o = outside (asked c.args.order) c.profile-profile.result c.args.b c.args.blocks.now c.correct_at.new.bytes e c.profile-profile.ensures.fits c.correct_at.ensures.before c.correct_at.ensures.behind in
     record {
-      taken = subst (OneTaken (asked c.args.order) c.args.b (word c.args.blocks.now) (word c.correct_at.new.bytes)) (sym c.from-residual.ensures)
+      taken = subst (OneTaken (asked c.args.order) c.args.b (word c.args.blocks.now) (word c.correct_at.new.bytes)) (sym c.from_residual.ensures)
           (taken_none (asked c.args.order) c.args.b c.args.blocks.now c.correct_at.new.bytes f.parity
           (subst (λ (p : Profile). RefusedAt p c.args.b c.args.blocks.now c.correct_at.new.bytes) e c.in_err-wrong.ensures.answer));
       before = o.before;

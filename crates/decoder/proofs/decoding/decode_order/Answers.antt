@@ -8,7 +8,7 @@ use Rattle.decoder.proofs.decoding.decode_order.Goals as goal
 pub returns-in-Ok : goal.returns-in-Ok
 returns-in-Ok c = (
   sym c.in_ok-wrong_bits.ensures.answer,
-  decoded (asked c.args.order) c.args.points.now (profiles_fit c.args.order.rate (search rules)) (word c.receive_bytes.new.bytes) c.in_ok-wrong_bits.wrong_count c.in_ok-wrong_bits.ensures.received
+  decoded (asked c.args.order) c.args.points.now (profiles_fit c.args.order.rate (search rules)) (word c.receive_bytes.new.bytes) c.in_ok-wrong_bits.wrong_bits c.in_ok-wrong_bits.ensures.received
       (word c.take_blocks.new.blocks) c.in-Ok.corrected_bytes c.in-Ok.ensures c.args.out.now c.write_data.new.out c.write_data.ensures.written c.write_data.ensures.past,
 )
 
@@ -20,7 +20,7 @@ returns-in-Err c = (
     (
       c.in-Err.number,
       refl,
-      broken (asked c.args.order) c.args.points.now (profiles_fit c.args.order.rate (search rules)) (word c.receive_bytes.new.bytes) c.in_ok-wrong_bits.wrong_count c.in_ok-wrong_bits.ensures.received
+      broken (asked c.args.order) c.args.points.now (profiles_fit c.args.order.rate (search rules)) (word c.receive_bytes.new.bytes) c.in_ok-wrong_bits.wrong_bits c.in_ok-wrong_bits.ensures.received
           c.in-Err.number c.in-Err.ensures,
     ),
   ),

@@ -4,5 +4,5 @@ use Rattle.search_bench.proofs.tables.fill_charges.Goals as goal
 
 pub returns : goal.returns
 returns c =
-    let a : length c.charge-prefix.new.costs ≡ 5120 = search rules in
-    small _ a c.charge-prefix.ensures
+    let a : length c.charge_prefix.new.costs ≡ 5120 = search rules in
+    small _ a c.charge_prefix.ensures

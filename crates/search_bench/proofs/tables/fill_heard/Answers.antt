@@ -4,9 +4,9 @@ use Rattle.search_bench.proofs.tables.fill_heard.Goals as goal
 
 pub returns : goal.returns
 returns c =
-    let a : length c.fill-costs.new.costs ≡ 8192 = search rules in
-    let b : length c.fill-totals.new.totals ≡ 256 = search rules in
+    let a : length c.fill_costs.new.costs ≡ 8192 = search rules in
+    let b : length c.fill_totals.new.totals ≡ 256 = search rules in
     record {
-      fair = fair _ _ a c.fill-costs.ensures c.fill-totals.ensures;
-      low = low _ b c.fill-totals.ensures;
+      fair = fair _ _ a c.fill_costs.ensures c.fill_totals.ensures;
+      low = low _ b c.fill_totals.ensures;
     }

@@ -4,5 +4,5 @@ use Rattle.search_bench.proofs.tables.fill_targets.Goals as goal
 
 pub returns : goal.returns
 returns c =
-    let a : length c.target-prefix.new.targets ≡ 5120 = search rules in
-    inside _ a c.target-prefix.ensures
+    let a : length c.target_prefix.new.targets ≡ 5120 = search rules in
+    inside _ a c.target_prefix.ensures
