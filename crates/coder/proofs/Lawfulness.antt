@@ -1,23 +1,23 @@
 -- What holds of every burst sent.
 -- Assumes nothing.
-use Rattle.std.proofs.Common.{◌≡◌, ℕ, zero, suc, ◌+◌, ◌*◌, ◌/◌, ◌%◌, ◌<◌, ◌≤◌, Bool, true, false, cond, ltb, List, get_or, None, sym, refl, ap, ◌∙◌, subst, ap₂, add-zero, mod-eq_of_lt, arith}
+use Rattle.std.proofs.Common.{◌≡◌, ℕ, ◌+◌, ◌*◌, ◌/◌, ◌%◌, ◌<◌, Bool, true, false, cond, ltb, List, None, sym, ap, ◌∙◌, subst, ap₂, add-zero, mod-eq_of_lt, arith}
 use native.Mathlib.Nat.{mul-add-div, mul-add-mod_self_left, div-eq_of_lt}
-use Rattle.words.specs.Words.{Bits, Bytes, part}
+use Rattle.words.specs.Words.{part}
 use Rattle.standard.specs.declared.order.Request.{Request}
-use Rattle.standard.specs.Profiles.{profile, Modulation, Fitting}
+use Rattle.standard.specs.Profiles.{Modulation, Fitting}
 use Rattle.standard.specs.Refusals.{first, request_rows, capacity}
 use Rattle.standard.proofs.Fits.{profiles_fit}
-use Rattle.standard.proofs.Bounds.{Bounded, bounded}
+use Rattle.standard.proofs.Bounds.{bounded}
 use Rattle.scrambler.specs.Scrambler.{start, scrambled}
 use Rattle.scrambler.proofs.Keys.{scrambled_lt}
 use Rattle.outer_code.specs.Outer.{Outer}
 use Rattle.outer_code.specs.Blocks.{blocks}
 use Rattle.outer_code.proofs.Blocks.{blocks_outer}
-use Rattle.interleaver.specs.Interleaver.{Interleaved, size, place, source}
+use Rattle.interleaver.specs.Interleaver.{Interleaved, place, source}
 use Rattle.interleaver.proofs.Laws.{permutation}
 use Rattle.interleaver.proofs.Permutation.{parts, size_pos}
 use Rattle.constellation.proofs.Mapping.{carried}
-use Rattle.coder.specs.Sending.{band, profiled, filled, tailed, message, protected, coded_bits, symbol_bits, sent, Lawful}
+use Rattle.coder.specs.Sending.{band, profiled, filled, message, protected, coded_bits, symbol_bits, sent, Lawful}
 
 -- every byte that the outer code protects is a byte
 pub message_lt : (r : Request) (d : List ℕ) (i : ℕ) → message r d i < 256

@@ -1,6 +1,6 @@
 -- What each step of the chain leaves in its buffer.
 -- Assumes nothing.
-use Rattle.std.proofs.Common.{◌≡◌, ℕ, zero, suc, ◌+◌, ◌-◌, ◌*◌, ◌/◌, ◌%◌, ◌<◌, ◌≤◌, Bool, true, false, cond, ltb, ◌⊎◌, List, length, get_or, set, ℤ, pos, sym, refl, ap, ◌∙◌, subst, ap₂, inl, inr, add_assoc, mul_assoc, mul_comm, mul-le-mul, mul-le-mul_left, mul-suc, mul_left_comm, arith, get_or-set_other, get_or-set_same, le-ltb, lt-ltb}
+use Rattle.std.proofs.Common.{◌≡◌, ℕ, suc, ◌+◌, ◌*◌, ◌/◌, ◌<◌, ◌≤◌, Bool, false, cond, List, length, get_or, set, pos, sym, refl, ap, ◌∙◌, subst, ap₂, inl, inr, add_assoc, mul_assoc, mul_comm, mul-le-mul, mul-le-mul_left, mul-suc, mul_left_comm, arith, get_or-set_other, get_or-set_same, le-ltb, lt-ltb}
 use native.Mathlib.Decide.{ℕ_discrete}
 use Rattle.words.specs.Words.{Bits, Bytes, word, flags, bits, value}
 use Rattle.words.proofs.Bridge.{bits_same, value_same}
@@ -22,7 +22,7 @@ use Rattle.interleaver.specs.Interleaver.{Interleaved, size}
 use Rattle.interleaver.proofs.Laws.{permutation}
 use Rattle.interleaver.proofs.Writing.{symbol_ends}
 use Rattle.constellation.specs.Constellation.{level, point, origin}
-use Rattle.coder.specs.Sending.{Sent, band, profiled, filled, tailed, message, protected, coded_bits, symbol_bits, burst_length, sent}
+use Rattle.coder.specs.Sending.{Sent, band, profiled, filled, message, protected, coded_bits, symbol_bits, burst_length, sent}
 use Rattle.coder.proofs.Lawfulness.{sent_goes}
 
 -- one byte more

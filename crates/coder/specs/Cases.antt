@@ -1,14 +1,14 @@
 -- Worked cases of the rules, as one statement.
 -- Assumes nothing.
-use Rattle.std.specs.Prelude.{◌≡◌, ℕ, zero, suc, ◌+◌, ◌*◌, Bool, true, false, List, [], ◌∷◌, pos, negsuc, Some, None, slice_index_or}
+use Rattle.std.specs.Prelude.{◌≡◌, ℕ, zero, suc, Bool, true, false, List, [], ◌∷◌, pos, negsuc, Some, None, slice_index_or}
 use Rattle.words.specs.Words.{Bits, bits, bytes, listed, ones, word}
 use Rattle.standard.specs.declared.order.Request.{Request}
 use Rattle.standard.specs.declared.refusal.Refusal.TheVariants.{DataLength}
-use Rattle.standard.specs.Refusals.{first, number, burst_rows, encode_rows}
+use Rattle.standard.specs.Refusals.{first, number, encode_rows}
 use Rattle.scrambler.specs.Scrambler.{start, scrambled}
 use Rattle.inner_code.specs.Inner.{coded}
 use Rattle.interleaver.specs.Interleaver.{spread, place}
-use Rattle.constellation.specs.Constellation.{level, point}
+use Rattle.constellation.specs.Constellation.{point}
 use Rattle.constellation.specs.Decisions.{DecisionCases}
 
 -- the first n bits as a list

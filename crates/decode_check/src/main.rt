@@ -1,6 +1,7 @@
 //! Received bursts from standard input: five bytes of a request, then four bytes of each of its points. For each it prints
 //! what decoding answers.
 #![tactic(auto)]
+
 use decoder::report::Report;
 use standard::order::Request;
 use standard::point::Point;

@@ -1,15 +1,15 @@
 -- Points as they were sent are decoded to the data, filled up.
 -- Assumes nothing.
-use Rattle.std.proofs.Common.{◌≡◌, ℕ, zero, suc, ◌+◌, ◌-◌, ◌*◌, ◌/◌, ◌%◌, ◌<◌, ◌≤◌, Bool, true, false, cond, ltb, ◌⊎◌, List, [], ◌∷◌, ◌++◌, length, get_or, drop, Some, None, Ok, Err, Option, Result, sym, refl, ap, ◌∙◌, subst, ap₂, inl, inr, mod-lt, mul_assoc, mul_comm, div-lt_iff_lt-mul, mul-le-mul_left, mul-suc, arith, ltb-true, le-ltb, lt-ltb}
+use Rattle.std.proofs.Common.{◌≡◌, ℕ, zero, suc, ◌+◌, ◌-◌, ◌*◌, ◌/◌, ◌%◌, ◌<◌, Bool, true, false, cond, ltb, List, [], ◌∷◌, ◌++◌, length, get_or, drop, Some, None, Ok, Err, Result, sym, refl, ap, ◌∙◌, subst, ap₂, inl, inr, mod-lt, mul_assoc, mul_comm, div-lt_iff_lt-mul, mul-le-mul_left, mul-suc, arith, le-ltb, lt-ltb}
 use native.Mathlib.Nat.{div-add-mod}
-use Rattle.words.specs.Words.{Bits, Bytes, bits, bytes, part, word}
+use Rattle.words.specs.Words.{Bits, bits, bytes, part, word}
 use Rattle.words.proofs.Bridge.{bytes_bits, get_or_listed, length_listed, listed_same, value_same}
 use Rattle.standard.specs.declared.order.Request.{Request}
 use Rattle.standard.specs.declared.point.Point.{Point}
 use Rattle.standard.specs.declared.refusal.Refusal.{Refusal}
 use Rattle.standard.specs.Profiles.{Fitting, period}
 use Rattle.standard.specs.Refusals.{Row, capacity, first, request_rows}
-use Rattle.standard.proofs.Bounds.{Bounded, bounded}
+use Rattle.standard.proofs.Bounds.{bounded}
 use Rattle.standard.proofs.Fits.{profiles_fit}
 use Rattle.scrambler.specs.Scrambler.{start, scrambled}
 use Rattle.scrambler.proofs.Keys.{scrambled_same, twice}
@@ -23,18 +23,17 @@ use Rattle.outer_theory.proofs.Iff.{only_one}
 use Rattle.inner_code.specs.Inner.{coded}
 use Rattle.inner_code.proofs.Coding.{coded_same}
 use Rattle.inner_code.proofs.Rates.{rated}
-use Rattle.inner_words.specs.InnerWords.{Tailed, Nearest, wrong}
+use Rattle.inner_words.specs.InnerWords.{Tailed}
 use Rattle.inner_words.proofs.Words.{heard_clean, nearest_clean, tailed_bits}
-use Rattle.interleaver.specs.Interleaver.{Interleaved, size, place}
+use Rattle.interleaver.specs.Interleaver.{place}
 use Rattle.interleaver.proofs.Laws.{permutation}
 use Rattle.interleaver.proofs.Writing.{symbol_ends}
 use Rattle.constellation.proofs.Hearing.{decisions}
 use Rattle.coder.specs.Sending.{band, profiled, filled, message, protected, coded_bits, symbol_bits, burst_length, sent, Sent}
-use Rattle.coder.proofs.Lawfulness.{in_symbol, lawful, message_lt, sent_goes}
+use Rattle.coder.proofs.Lawfulness.{lawful, message_lt, sent_goes}
 use Rattle.coder.proofs.Steps.{Periods, periods}
-use Rattle.decoder.specs.Hearing.{Received}
 use Rattle.decoder.specs.Taken.{Taken, total}
-use Rattle.decoder.specs.Receiving.{Inner, Data, Broken, Untaken, Decodes, Restored, RoundTrip, block, message_of, wrong_count, decode_rows}
+use Rattle.decoder.specs.Receiving.{Inner, Decodes, RoundTrip, block, message_of, wrong_count, decode_rows}
 use Rattle.decoder.specs.declared.report.Report.{Report}
 
 -- a block does not differ from itself

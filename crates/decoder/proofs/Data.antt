@@ -1,7 +1,7 @@
 -- From the bytes of the nearest inner word to what decoding answers.
 -- Assumes nothing.
-use Rattle.std.proofs.Common.{◌≡◌, ℕ, suc, ◌+◌, ◌-◌, ◌*◌, ◌/◌, ◌%◌, ◌<◌, ◌≤◌, List, length, get_or, sym, refl, ap, ◌∙◌, subst, ap₂, mod-lt, mul_comm, div-lt_iff_lt-mul, mul-le-mul_left, mul-suc, arith}
-use Rattle.words.specs.Words.{Bits, Bytes, bytes, part, word}
+use Rattle.std.proofs.Common.{◌≡◌, ℕ, ◌+◌, ◌-◌, ◌*◌, ◌/◌, ◌%◌, ◌<◌, ◌≤◌, List, get_or, sym, ap, ◌∙◌, subst, mod-lt, mul_comm, mul-le-mul_left, mul-suc, arith}
+use Rattle.words.specs.Words.{Bytes, bytes}
 use Rattle.words.proofs.Bridge.{get_or_listed, listed_same}
 use Rattle.standard.specs.declared.order.Request.{Request}
 use Rattle.standard.specs.declared.point.Point.{Point}
@@ -11,7 +11,7 @@ use Rattle.scrambler.specs.Scrambler.{start, scrambled}
 use Rattle.scrambler.proofs.Keys.{scrambled_same}
 use Rattle.outer_theory.specs.Syndromes.{differing}
 use Rattle.coder.specs.Sending.{profiled}
-use Rattle.decoder.specs.Taken.{Taken, total}
+use Rattle.decoder.specs.Taken.{Taken}
 use Rattle.decoder.specs.Blocks.{nth, messages, BlocksTaken, NoBlock}
 use Rattle.decoder.specs.Receiving.{block, message_of, Data, Broken}
 use Rattle.decoder.specs.Steps.{Bytewise}

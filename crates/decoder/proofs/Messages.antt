@@ -1,9 +1,9 @@
 -- Message bytes copied from blocks, one after another.
 -- Assumes nothing.
-use Rattle.std.proofs.Common.{◌≡◌, ℕ, suc, ◌+◌, ◌-◌, ◌*◌, ◌/◌, ◌%◌, ◌<◌, ◌≤◌, List, length, get_or, set, sym, refl, ap, ◌∙◌, subst, ap₂, mod-lt, mul_comm, div-lt_iff_lt-mul, mul-le-mul_left, mul-suc, arith, get_or-set_other, get_or-set_same}
+use Rattle.std.proofs.Common.{◌≡◌, ℕ, suc, ◌+◌, ◌-◌, ◌*◌, ◌/◌, ◌%◌, ◌<◌, ◌≤◌, List, length, get_or, set, sym, ap, ◌∙◌, ap₂, mod-lt, mul_comm, div-lt_iff_lt-mul, mul-le-mul_left, mul-suc, arith, get_or-set_other, get_or-set_same}
 use native.Mathlib.Decide.{ℕ_discrete}
 use native.Mathlib.Nat.{div-add-mod}
-use Rattle.words.specs.Words.{Bytes, word}
+use Rattle.words.specs.Words.{word}
 use Rattle.standard.specs.declared.profile.Profile.{Profile}
 use Rattle.standard.specs.Profiles.{Fitting}
 use Rattle.coder.proofs.Lawfulness.{in_symbol}

@@ -1,6 +1,6 @@
 -- Outer words taken block by block.
 -- Assumes nothing.
-use Rattle.std.proofs.Common.{◌≡◌, ℕ, zero, suc, ◌+◌, ◌-◌, ◌*◌, ◌<◌, ◌≤◌, ◌⊎◌, List, length, get_or, Some, None, sym, refl, ap, ◌∙◌, subst, ap₂, inl, inr, eq-or-lt_of_le, mul-le-mul_left, mul-suc, add-one, arith}
+use Rattle.std.proofs.Common.{◌≡◌, ℕ, zero, suc, ◌+◌, ◌-◌, ◌*◌, ◌<◌, ◌≤◌, List, get_or, Some, None, sym, refl, ap, ◌∙◌, subst, ap₂, mul-le-mul_left, mul-suc, add-one, arith}
 use native.Mathlib.Decide.{ℕ_discrete}
 use Rattle.words.specs.Words.{Bytes, part, word}
 use Rattle.words.proofs.Bridge.{get_or_listed, listed_same}

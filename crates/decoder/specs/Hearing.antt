@@ -1,6 +1,6 @@
 -- The coded bits that are heard.
 -- Assumes nothing.
-use Rattle.std.specs.Prelude.{ℕ, ◌*◌, List}
+use Rattle.std.specs.Prelude.{◌*◌, List}
 use Rattle.words.specs.Words.{Bits}
 use Rattle.standard.specs.declared.order.Request.{Request}
 use Rattle.standard.specs.declared.point.Point.{Point}

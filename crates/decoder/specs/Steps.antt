@@ -1,6 +1,6 @@
 -- What the steps of receiving answer.
 -- Assumes nothing.
-use Rattle.std.specs.Prelude.{◌≡◌, ℕ, ◌*◌, ◌<◌, ◌⊎◌, List, length, Some, None, Ok, Err, Result}
+use Rattle.std.specs.Prelude.{◌≡◌, ℕ, ◌*◌, ◌<◌, ◌⊎◌, List, Some, None, Ok, Err, Result}
 use Rattle.words.specs.Words.{Bits, Bytes, bytes}
 use Rattle.standard.specs.declared.order.Request.{Request}
 use Rattle.standard.specs.declared.point.Point.{Point}

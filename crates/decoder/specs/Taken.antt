@@ -1,6 +1,6 @@
 -- The outer word that is taken for a block.
 -- Assumes nothing.
-use Rattle.std.specs.Prelude.{◌≡◌, ℕ, zero, suc, ◌+◌, ◌-◌, ◌*◌, ◌<◌, ◌≤◌, List, slice_index}
+use Rattle.std.specs.Prelude.{◌≡◌, ℕ, zero, suc, ◌+◌, ◌-◌, ◌≤◌, List, slice_index}
 use Rattle.standard.specs.declared.order.Request.{Request}
 use Rattle.outer_code.specs.Outer.{Outer}
 use Rattle.outer_theory.specs.Syndromes.{differing}

@@ -1,5 +1,6 @@
 //! The rack program: records from standard input, a line for each on standard output.
 #![tactic(auto)]
+
 use std::io::{Read, Write};
 
 // What is past it is not read.

@@ -1,8 +1,8 @@
 -- What stands at a place, by what was seen of it.
 -- Assumes nothing.
-use Rattle.std.proofs.Common.{◌≡◌, ℕ, ◌+◌, ◌-◌, ◌*◌, ◌<◌, ◌≤◌, Bool, true, false, cond, ◌&&◌, eqb, ltb, List, length, get_or, take, drop, sym, refl, ap, ◌∙◌, ap₂, arith, le-ltb, eq-eqb}
+use Rattle.std.proofs.Common.{◌≡◌, ℕ, ◌+◌, ◌-◌, ◌≤◌, true, false, ◌&&◌, ltb, List, length, get_or, take, drop, sym, ap, ap₂, arith, le-ltb, eq-eqb}
 use Rattle.std.proofs.lemmas.List.{take_all, length-drop}
-use Rattle.records.specs.Records.{Head, burst, broken, head, marked, request_in, long_in}
+use Rattle.records.specs.Records.{burst, head, marked, request_in, long_in}
 
 pub whole_burst : (xs : List ℕ) (n : ℕ) → 9 ≤ length xs → get_or xs 0 0 ≡ 66 → get_or xs 1 0 ≡ 85 → n ≡ long_in xs → 9 + long_in xs ≤ length xs → head xs ≡ burst (request_in xs) (take n (take (length xs - 9) (drop 9 xs)))
 whole_burst xs n nine b u e room =

@@ -1,8 +1,8 @@
 -- The text of lines and of whole inputs, piece by piece.
 -- Assumes nothing.
-use Rattle.std.proofs.Common.{◌≡◌, ℕ, zero, suc, ◌+◌, ◌-◌, ◌*◌, ◌/◌, ◌<◌, ◌≤◌, Bool, true, false, cond, eqb, ltb, List, [], ◌∷◌, ◌++◌, length, get_or, take, drop, Some, None, codes, Option, sym, refl, ap, ◌∙◌, subst, ap₂, append_assoc, append-nil, suc-le-suc, arith, ltb-false}
+use Rattle.std.proofs.Common.{◌≡◌, ℕ, zero, suc, ◌+◌, ◌-◌, ◌*◌, ◌/◌, ◌<◌, ◌≤◌, Bool, true, false, cond, ltb, List, [], ◌∷◌, ◌++◌, length, get_or, take, drop, Some, None, codes, Option, sym, refl, ap, ◌∙◌, ap₂, append_assoc, append-nil, arith, ltb-false}
 use Rattle.std.proofs.lemmas.List.{length-drop, length-take, take_all, drop-drop}
-use Rattle.words.specs.Words.{Bits, flags, value}
+use Rattle.words.specs.Words.{Bits, flags}
 use Rattle.words.proofs.Bridge.{value_same}
 use Rattle.std.specs.Fmt.{digit_glyph}
 use Rattle.standard.specs.declared.order.Request.{Request}
@@ -12,7 +12,7 @@ use Rattle.coder.specs.Sending.{burst_length, sent}
 use Rattle.standard.specs.declared.refusal.Refusal.TheVariants.{UnknownMark, CutShort}
 use Rattle.records.specs.declared.record.Mark.TheVariants.{Bu, Unknown}
 use Rattle.records.specs.Lines.{begun, hex}
-use Rattle.records.specs.Records.{Head, burst, broken, head, marked, long_in, request_in}
+use Rattle.records.specs.Records.{burst, broken, head, marked, long_in, request_in}
 use Rattle.records.specs.Answers.{newline, line_of_burst, line, used, followed, lines, text}
 
 -- begun, a space, the digits, and the end of the line

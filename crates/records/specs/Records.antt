@@ -1,6 +1,6 @@
 -- Records: what stands at a place of the input.
 -- Assumes nothing.
-use Rattle.std.specs.Prelude.{◌≡◌, ℕ, ◌+◌, ◌*◌, Bool, cond, ◌&&◌, List, [], ◌∷◌, length, take, drop, Ok, Err, Result, ◌==◌, nat_lt, slice_index}
+use Rattle.std.specs.Prelude.{◌≡◌, ℕ, ◌+◌, ◌*◌, Bool, cond, ◌&&◌, List, length, take, drop, Ok, Err, Result, ◌==◌, nat_lt, slice_index}
 use Rattle.standard.specs.declared.order.Request.{Request}
 use Rattle.standard.specs.declared.refusal.Refusal.{Refusal}
 use Rattle.standard.specs.declared.refusal.Refusal.TheVariants.{UnknownMark, CutShort}

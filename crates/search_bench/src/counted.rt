@@ -1,4 +1,5 @@
 ghost use Rattle.std.specs.Prelude.{ℕ, ◌≤◌};
+ghost use Rattle.paths.specs.Replies.{Enters};
 ghost use Rattle.search_bench.specs.Counted.{Inside, Small, counted as counting};
 ghost use Rattle.search_bench.specs.CountedLaws.{counted_lawful};
 
@@ -52,7 +53,10 @@ impl Trellis for Counted<'_> {
         }
     }
 
-    fn entry(&self, stage: usize, state: usize, second: bool) -> Entry {
+    // No path is wanted here, so none is asked for; the answer is the model's all the same.
+    fn entry(&self, stage: usize, state: usize, second: bool) -> Entry
+        ensures { let m = counting self.now.stages self.now.targets.now self.now.costs.now in Enters m.states (m.entry stage state second) result.from result.bit result.cost }
+    {
         Entry {
             from: 0,
             bit: false,

@@ -1,7 +1,7 @@
-use Rattle.std.proofs.Common.{◌≡◌, ℕ, ◌+◌, ◌*◌, ◌/◌, ◌<◌, ◌≤◌, false, length, get_or, sym, ap, ◌∙◌, subst, arith, rules}
+use Rattle.std.proofs.Common.{◌≡◌, ℕ, ◌+◌, ◌*◌, ◌/◌, ◌<◌, ◌≤◌, false, length, get_or, subst, arith, rules}
 use Rattle.words.specs.Words.{word, bits}
 use Rattle.standard.specs.declared.profile.Profile.{Profile}
-use Rattle.standard.specs.Profiles.{Fitting, period}
+use Rattle.standard.specs.Profiles.{period}
 use Rattle.standard.specs.Refusals.{asked}
 use Rattle.inner_code.specs.Inner.{coded}
 use Rattle.coder.specs.Sending.{profiled}

@@ -1,4 +1,4 @@
-use Rattle.std.proofs.Common.{◌≡◌, ℕ, ◌*◌, ◌<◌, length, get_or, subst, arith, rules}
+use Rattle.std.proofs.Common.{◌≡◌, ℕ, ◌*◌, ◌<◌, length, get_or, subst, rules}
 use Rattle.words.specs.Words.{flags}
 use Rattle.standard.specs.declared.order.Request.{Request}
 use Rattle.standard.specs.declared.profile.Profile.{Profile}

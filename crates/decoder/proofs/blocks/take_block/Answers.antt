@@ -1,11 +1,11 @@
-use Rattle.std.proofs.Common.{◌≡◌, ℕ, ◌+◌, ◌-◌, ◌*◌, ◌<◌, ◌≤◌, get_or, Some, None, Option, sym, ◌∙◌, subst, arith, rules}
+use Rattle.std.proofs.Common.{◌≡◌, ◌+◌, ◌-◌, ◌*◌, get_or, sym, ◌∙◌, subst, arith}
 use Rattle.words.specs.Words.{word}
 use Rattle.standard.specs.declared.profile.Profile.{Profile}
 use Rattle.standard.specs.Profiles.{Fitting}
 use Rattle.standard.specs.Refusals.{asked}
 use Rattle.coder.specs.Sending.{profiled}
 use Rattle.decoder.specs.Blocks.{OneTaken}
-use Rattle.decoder.proofs.Taking.{RefusedAt, CorrectedAt, Outside, outside, taken_none, taken_untailed, taken_some}
+use Rattle.decoder.proofs.Taking.{RefusedAt, CorrectedAt, outside, taken_none, taken_untailed, taken_some}
 use Rattle.decoder.proofs.blocks.take_block.Goals as goal
 use Rattle.decoder.proofs.blocks.take_block.Goals.{else-b-symbols-via-then-b-symbols+else-blocks-at-ne0, else-b-symbols-via-else-b-symbols}
 

@@ -1,9 +1,7 @@
-use Rattle.std.proofs.Common.{◌≡◌, ℕ, ◌+◌, ◌*◌, ◌<◌, ◌≤◌, sym, ap, ◌∙◌, subst, arith, rules}
+use Rattle.std.proofs.Common.{◌≡◌, ℕ, ◌<◌, subst, arith, rules}
 use Rattle.words.specs.Words.{word}
-use Rattle.standard.specs.Profiles.{profile}
 use Rattle.standard.specs.Refusals.{asked}
 use Rattle.standard.proofs.Fits.{profiles_fit}
-use Rattle.coder.specs.Sending.{profiled}
 use Rattle.decoder.specs.Blocks.{BlocksTaken}
 use Rattle.decoder.proofs.Taking.{blocks_start, blocks_more, wrong_few, no_block}
 use Rattle.decoder.proofs.blocks.take_blocks.Goals as goal

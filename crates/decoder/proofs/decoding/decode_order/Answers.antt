@@ -1,4 +1,4 @@
-use Rattle.std.proofs.Common.{◌≡◌, sym, refl, inl, inr, rules}
+use Rattle.std.proofs.Common.{sym, refl, inr, rules}
 use Rattle.words.specs.Words.{word}
 use Rattle.standard.specs.Refusals.{asked}
 use Rattle.standard.proofs.Fits.{profiles_fit}

@@ -1,11 +1,10 @@
-use Rattle.std.proofs.Common.{◌≡◌, ℕ, ◌*◌, sym, subst}
+use Rattle.std.proofs.Common.{◌≡◌, ℕ, ◌*◌, subst}
 use Rattle.words.specs.Words.{flags}
 use Rattle.standard.specs.declared.profile.Profile.{Profile}
 use Rattle.standard.specs.Refusals.{asked}
 use Rattle.interleaver.specs.Interleaver.{Interleaved}
 use Rattle.constellation.specs.Decisions.{Heard}
 use Rattle.coder.specs.Sending.{band, profiled}
-use Rattle.decoder.specs.Hearing.{Received}
 use Rattle.decoder.proofs.hearing.hear_coded.Goals as goal
 
 pub returns : goal.returns

@@ -1,4 +1,4 @@
-use Rattle.std.proofs.Common.{◌≡◌, ℕ, ◌+◌, ◌-◌, ◌*◌, ◌%◌, ◌≤◌, get_or, set, sym, ap, ◌∙◌, arith, get_or-set_other, rules}
+use Rattle.std.proofs.Common.{◌≡◌, ℕ, ◌+◌, ◌%◌, ◌≤◌, get_or, set, ap, ◌∙◌, arith, get_or-set_other}
 use Rattle.decoder.proofs.Messages.{next_place, copied_more}
 use Rattle.decoder.proofs.writing.copy_messages.Goals as goal
 use Rattle.decoder.proofs.writing.copy_messages.Goals.{then-left-eq0, else-left-eq0}

@@ -1,13 +1,12 @@
-use Rattle.std.proofs.Common.{◌≡◌, ℕ, ◌+◌, ◌*◌, ◌<◌, ◌≤◌, length, get_or, sym, ap, ◌∙◌, subst, arith, rules}
+use Rattle.std.proofs.Common.{◌≡◌, ℕ, ◌*◌, ◌<◌, ◌≤◌, length, sym, ap, ◌∙◌, subst, arith, rules}
 use Rattle.words.specs.Words.{word}
 use Rattle.standard.specs.declared.profile.Profile.{Profile}
-use Rattle.standard.specs.Profiles.{Fitting}
 use Rattle.standard.specs.Refusals.{asked}
-use Rattle.scrambler.specs.Scrambler.{scrambled, start}
+use Rattle.scrambler.specs.Scrambler.{scrambled}
 use Rattle.scrambler.proofs.Keys.{scrambled_same}
 use Rattle.coder.specs.Sending.{profiled}
 use Rattle.decoder.specs.Blocks.{messages}
-use Rattle.decoder.proofs.Messages.{place, place_within}
+use Rattle.decoder.proofs.Messages.{place_within}
 use Rattle.decoder.proofs.writing.write_data.Goals as goal
 
 pub copy_messages-requires : goal.copy_messages-requires

@@ -1,4 +1,4 @@
-use Rattle.std.proofs.Common.{◌≡◌, ℕ, ◌+◌, ◌<◌, ◌≤◌, List, ◌++◌, Some, None, string_bytes, sym, ap, ◌∙◌, arith, rules}
+use Rattle.std.proofs.Common.{◌≡◌, ℕ, List, ◌++◌, Some, string_bytes, sym, ap, ◌∙◌, rules}
 use Rattle.records.specs.Records.{head}
 use Rattle.records.specs.Answers.{used}
 use Rattle.records.proofs.Replies.{rest_of, used_in, inputs_next, inputs_last, inputs_done}

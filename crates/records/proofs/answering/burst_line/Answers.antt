@@ -1,4 +1,4 @@
-use Rattle.std.proofs.Common.{◌≡◌, IfOk, Ok, Err, string_bytes, Result}
+use Rattle.std.proofs.Common.{IfOk, Ok, Err, string_bytes, Result}
 use Rattle.records.proofs.Replies.{burst_sent}
 use Rattle.records.proofs.answering.burst_line.Goals as goal
 

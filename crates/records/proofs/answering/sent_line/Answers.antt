@@ -1,4 +1,4 @@
-use Rattle.std.proofs.Common.{string_bytes, refl, lit<}
+use Rattle.std.proofs.Common.{string_bytes}
 use Rattle.words.specs.Words.{flags}
 use Rattle.records.specs.Lines.{hex}
 use Rattle.records.proofs.Replies.{pieces}

@@ -1,4 +1,4 @@
-use Rattle.std.proofs.Common.{◌≡◌, ℕ, ◌+◌, ◌*◌, ◌<◌, List, [], ◌∷◌, ◌++◌, string_bytes, sym, ap, ◌∙◌, ap₂, append_assoc, append-nil, add-one, arith, rules}
+use Rattle.std.proofs.Common.{string_bytes, sym, append-nil}
 use Rattle.words.specs.Words.{flags}
 use Rattle.records.specs.Lines.{hex}
 use Rattle.records.proofs.Spelling.{glyph_ascii, hex_more}
