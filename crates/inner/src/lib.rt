@@ -2,8 +2,8 @@
 #![tactic(auto)]
 
 ghost use Rattle.std.specs.Prelude.{ℕ, ◌+◌, ◌*◌, ◌<◌, ◌≤◌, get_or, length, false, ◌≡◌};
-ghost use Rattle.inner_code.specs.Inner.{coded as codeword, x as x-output, y as y-output};
-ghost use Rattle.inner.specs.Outputs.{bit, kept, offset as offset-of, x_in, y_in};
+ghost use Rattle.inner_code.specs.Inner.{coded as codeword, x as x_output, y as y_output};
+ghost use Rattle.inner.specs.Outputs.{bit, kept, offset as offset_of, x_in, y_in};
 ghost use Rattle.standard.specs.Profiles.{period as periodic, punctured};
 ghost use Rattle.words.specs.Words.{bits, word};
 
@@ -28,8 +28,8 @@ fn convolve(bytes: &[u8], count: usize, xs: &mut [u8], ys: &mut [u8])
     requires given { count ≤ length bytes.now }
     requires x_room { count ≤ length xs.old }
     requires y_room { count ≤ length ys.old }
-    ensures x { (k : ℕ) → k < 8 * count → bits (word xs.new) k ≡ x-output (bits (word bytes.now)) k }
-    ensures y { (k : ℕ) → k < 8 * count → bits (word ys.new) k ≡ y-output (bits (word bytes.now)) k }
+    ensures x { (k : ℕ) → k < 8 * count → bits (word xs.new) k ≡ x_output (bits (word bytes.now)) k }
+    ensures y { (k : ℕ) → k < 8 * count → bits (word ys.new) k ≡ y_output (bits (word bytes.now)) k }
 {
     let mut window: u16 = 0;
     for i in 0..count {
@@ -64,7 +64,7 @@ fn spread(
 // Where an entry of the puncturing table finds its bit: which outputs, and the place in the period.
 fn source<'a>(entry: Coded, xs: &'a [u8], ys: &'a [u8]) -> (&'a [u8], usize)
     requires alike { length xs.now ≡ length ys.now }
-    ensures place { result.1 ≡ offset-of entry }
+    ensures place { result.1 ≡ offset_of entry }
     ensures alike { length result.0.now ≡ length xs.now }
     ensures kept { (k : ℕ) → bits (word result.0.now) (k + result.1) ≡ kept (bits (word xs.now)) (bits (word ys.now)) k entry }
 {

@@ -1,6 +1,6 @@
 ghost use Rattle.std.specs.Prelude.{◌≡◌, ◌+◌, ◌*◌, ◌<◌, ◌≤◌, length};
 ghost use Rattle.inner_words.specs.Receiving.{x_heard, y_heard};
-ghost use Rattle.receiver.specs.Kinds.{Kinds, kind as kinded, sends as sent-at};
+ghost use Rattle.receiver.specs.Kinds.{Kinds, kind as kinded, sends as sent_at};
 ghost use Rattle.standard.specs.Profiles.{period as periodic};
 ghost use Rattle.words.specs.Words.{flags};
 
@@ -10,7 +10,7 @@ use words::digit;
 
 // The kind of stage `phase` of a period: what was heard of X and of Y, from place `at` on.
 fn kind(phase: usize, heard: &[bool], at: usize) -> u8
-    requires held { at + sent-at phase ≤ length heard.now }
+    requires held { at + sent_at phase ≤ length heard.now }
     ensures { result ≡ kinded (x_heard phase (flags heard.now) at) (y_heard phase (flags heard.now) at) }
 {
     match phase {
@@ -24,7 +24,7 @@ fn kind(phase: usize, heard: &[bool], at: usize) -> u8
 
 // How many coded bits the stage sends.
 fn sends(phase: usize) -> usize
-    ensures { result ≡ sent-at phase }
+    ensures { result ≡ sent_at phase }
 {
     if phase == 0 { 2 } else { 1 }
 }

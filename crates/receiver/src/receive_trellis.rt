@@ -1,5 +1,5 @@
 ghost use Rattle.std.specs.Prelude.{◌≡◌, ◌<◌, ◌≤◌, not};
-ghost use Rattle.inner_words.proofs.Laws.{lawful as receiving-lawful};
+ghost use Rattle.inner_words.proofs.Laws.{lawful as receiving_lawful};
 ghost use Rattle.inner_words.specs.Receiving.{allowed, cost as costing, receiving};
 ghost use Rattle.receiver.specs.Kinds.{Costs, Kinds};
 ghost use Rattle.words.specs.Words.{flags};
@@ -45,7 +45,7 @@ impl ReceiveTrellis<'_> {
 impl Trellis for ReceiveTrellis<'_> {
     ghost model = { λ x. receiving x.period x.stages (flags x.heard.now) };
 
-    ghost lawful = { λ x. receiving-lawful x.period x.stages (flags x.heard.now) x.short };
+    ghost lawful = { λ x. receiving_lawful x.period x.stages (flags x.heard.now) x.short };
 
     fn stages(&self) -> usize {
         self.stages

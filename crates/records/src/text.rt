@@ -10,6 +10,8 @@ use words::nibble;
 
 impl fmt::Display for Mark {
     ghost output = { λ m. Some (named m) };
+    // a mark is written bare, whatever the hole asks for
+    ghost styled_output = { λ m _. Some (named m) };
 
     fn fmt<W: fmt::Write>(&self, f: &mut fmt::Formatter<W>) -> fmt::Result {
         match self {

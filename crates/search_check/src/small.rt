@@ -1,5 +1,5 @@
 ghost use Rattle.std.specs.Prelude.{◌≡◌, ℕ, ◌+◌, ◌*◌, ◌/◌, ◌%◌, ◌<◌, ◌≤◌, ◌&&◌, ◌==◌};
-ghost use Rattle.search_check.specs.Small.{count as counted, find as found, leads as leading-to, small as smallest};
+ghost use Rattle.search_check.specs.Small.{count as counted, find as found, leads as leading_to, small as smallest};
 ghost use Rattle.search_check.specs.SmallLaws.{small_lawful};
 
 use trellis::{Branch, CLOSED_BRANCH, CLOSED_ENTRY, Entry, Trellis};
@@ -25,7 +25,7 @@ pub struct Small<'a> {
 fn leads(cells: &[u8; 128], stage: usize, state: usize, j: usize) -> bool
     requires early { stage < 8 }
     requires low { j < 16 }
-    ensures { result ≡ leading-to cells.now stage state j }
+    ensures { result ≡ leading_to cells.now stage state j }
 {
     let cell = cells[16 * stage + j];
     cell < 128 && (cell % 8) as usize == state
@@ -48,7 +48,7 @@ fn count(cells: &[u8; 128], stage: usize, state: usize, j: usize) -> usize
 fn is_nth(cells: &[u8; 128], stage: usize, state: usize, before: usize, j: usize) -> bool
     requires early { stage < 8 }
     requires low { j < 16 }
-    ensures { result ≡ (leading-to cells.now stage state j && counted cells.now stage state j == before) }
+    ensures { result ≡ (leading_to cells.now stage state j && counted cells.now stage state j == before) }
 {
     leads(cells, stage, state, j) && count(cells, stage, state, j) == before
 }
