@@ -31,7 +31,7 @@ def read(path):
         return f.read()
 
 
-# where the snake case name is a function of src/, a generated step or a field of a struct already
+# where the snake case name is a function of src/, a generated step, a field of a struct or a word of the library already
 OTHERWISE = {
     "burst-bits": "burst_length",
     "burst-line": "line_of_burst",

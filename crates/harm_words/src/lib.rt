@@ -1,4 +1,4 @@
-//! Harmful words, the fewest ones in them, and the trellis whose least path counts these.
+//! Harmful words, and the reach that the fewest ones in them give.
 #![tactic(auto)]
 
 ghost use Rattle.harm_words.specs.Harm.{LeastHarm, Reach, Shape};

@@ -55,7 +55,8 @@ impl Trellis for Counted<'_> {
 
     // No path is wanted here, so none is asked for; the answer is the model's all the same.
     fn entry(&self, stage: usize, state: usize, second: bool) -> Entry
-        ensures { let m = counting self.now.stages self.now.targets.now self.now.costs.now in Enters m.states (m.entry stage state second) result.from result.bit result.cost }
+        ensures { let m = counting self.now.stages self.now.targets.now self.now.costs.now in
+            Enters m.states (m.entry stage state second) result.from result.bit result.cost }
     {
         Entry {
             from: 0,
