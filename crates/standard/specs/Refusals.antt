@@ -1,6 +1,6 @@
 -- Refusals: their numbers, and which of several conditions is told.
 -- Assumes nothing.
-use Rattle.std.specs.Prelude.{◌≡◌, ℕ, ◌-◌, ◌*◌, Bool, cond, not, ◌||◌, List, [], ◌∷◌, ◌++◌, Some, None, Ok, Err, Option, Result, ◌==◌, nat_lt}
+use Rattle.std.specs.Prelude.{◌≡◌, ℕ, ◌-◌, ◌*◌, Bool, cond, not, ◌||◌, List, [], ◌∷◌, ◌++◌, Some, None, Ok, Err, Option, Result, ◌==◌, nat_lt, slice_index}
 use Rattle.standard.specs.declared.refusal.Refusal.{Refusal}
 use Rattle.standard.specs.declared.refusal.Refusal.TheVariants.{Rate, Identity, Symbols, DataLength, PointCount, Output, Memory, Block, UnknownMark, CutShort}
 use Rattle.standard.specs.declared.order.Request.{Request}
@@ -56,6 +56,10 @@ burst_rows r long = request_rows r ++ row DataLength (nat_lt (capacity r.rate r.
 -- a request with its data and room for points
 abbrev pub encode_rows : Request → ℕ → ℕ → List Row
 encode_rows r long room = burst_rows r long ++ row PointCount (not (room == 192 * r.symbols)) ∷ []
+
+-- the request that five bytes hold
+abbrev pub Read : List ℕ → Request → Type 0
+Read b r = (r.rate ≡ slice_index b 0) × (r.bsid ≡ slice_index b 1) × (r.uiuc ≡ slice_index b 2) × (r.frame ≡ slice_index b 3) × (r.symbols ≡ slice_index b 4)
 
 -- the request that an order was
 abbrev pub asked : Order → Request

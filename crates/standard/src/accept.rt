@@ -1,17 +1,34 @@
 ghost use Rattle.std.specs.Prelude.{◌≡◌, ◌≤◌};
 ghost use Rattle.standard.specs.Profiles.{Fitting, profile as profiled};
-ghost use Rattle.standard.specs.Refusals.{Accepted, capacity as capable};
+ghost use Rattle.standard.specs.Refusals.{Accepted, Read, capacity as capable};
 
 use crate::order::{Order, Request};
 use crate::profile::Profile;
 use crate::profiles::profile_of;
 use crate::refusal::Refusal;
 
-impl Order {
-    // The one way to an order.
-    pub fn accept(request: Request) -> Result<Order, Refusal>
-        ensures { Accepted request result }
-    {
+// The five bytes of a record that hold a request.
+impl From<[u8; 5]> for Request {
+    ghost from_gives = { Read };
+
+    fn from([rate, bsid, uiuc, frame, symbols]: [u8; 5]) -> Request {
+        Request {
+            rate: u32::from(rate),
+            bsid: u32::from(bsid),
+            uiuc: u32::from(uiuc),
+            frame: u32::from(frame),
+            symbols: u32::from(symbols),
+        }
+    }
+}
+
+// The one way to an order.
+impl TryFrom<Request> for Order {
+    type Error = Refusal;
+
+    ghost try_from_gives = { Accepted };
+
+    fn try_from(request: Request) -> Result<Order, Refusal> {
         if request.rate > 6 {
             return Err(Refusal::Rate);
         }
@@ -29,7 +46,9 @@ impl Order {
             symbols: request.symbols as u8,
         })
     }
+}
 
+impl Order {
     pub fn profile(self) -> Profile
         ensures value { result ≡ profiled self.rate }
         ensures fits { Fitting result }

@@ -1,7 +1,7 @@
 ghost use Rattle.std.specs.Prelude.{◌≤◌};
 
 // What a caller asks for, as raw numbers: nothing is known of them.
-#[derive(Clone, Copy)]
+#[derive(Clone, Copy, Debug, PartialEq, Eq)]
 pub struct Request {
     // the row of the profile table
     pub rate: u32,
@@ -14,8 +14,9 @@ pub struct Request {
     pub symbols: u32,
 }
 
-// An accepted request. Its bounds hold for as long as it exists.
-#[derive(Clone, Copy)]
+// An accepted request. Its bounds hold for as long as it exists. The rate stays the number that the rules give it, which
+// is its row of the profile table.
+#[derive(Clone, Copy, Debug, PartialEq, Eq)]
 pub struct Order {
     pub(crate) rate: u8,
     pub(crate) bsid: u8,

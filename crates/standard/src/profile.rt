@@ -1,5 +1,5 @@
 // The rate of the inner code: sent bits for each bit of its input.
-#[derive(Clone, Copy)]
+#[derive(Clone, Copy, Debug, PartialEq, Eq)]
 pub enum InnerRate {
     Half,
     TwoThirds,
@@ -8,7 +8,7 @@ pub enum InnerRate {
 }
 
 // A row of the profile table.
-#[derive(Clone, Copy)]
+#[derive(Clone, Copy, Debug, PartialEq, Eq)]
 pub struct Profile {
     // bits per carrier
     pub bits: usize,
@@ -21,7 +21,7 @@ pub struct Profile {
 }
 
 // A coded bit of a period: an output of the encoder, and the place of its input bit in the period.
-#[derive(Clone, Copy)]
+#[derive(Clone, Copy, Debug, PartialEq, Eq)]
 pub enum Coded {
     X1,
     Y1,

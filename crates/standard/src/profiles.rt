@@ -1,7 +1,10 @@
 ghost use Rattle.std.specs.Prelude.{◌≡◌, ◌≤◌};
-ghost use Rattle.standard.specs.Profiles.{period as periodic, profile as profiled, punctured};
+ghost use Rattle.standard.specs.Modulations.{carrier_bits};
+ghost use Rattle.standard.specs.Profiles.{Modulation as AreCarrierBits, period as periodic, profile as profiled, punctured};
 
+use crate::modulation::Modulation;
 use crate::profile::{Coded, InnerRate, Profile};
+use crate::shape::Shape;
 
 const PROFILES: [Profile; 7] = [
     Profile {
@@ -76,6 +79,33 @@ pub(crate) fn profile_of(rate: u8) -> Profile
     ensures { result ≡ profiled rate }
 {
     PROFILES[rate as usize]
+}
+
+impl Profile {
+    pub fn modulation(self) -> Modulation
+        requires { AreCarrierBits self.bits }
+        ensures { carrier_bits result ≡ self.bits }
+    {
+        match self.bits {
+            1 => Modulation::Bpsk,
+            2 => Modulation::Qpsk,
+            4 => Modulation::Qam16,
+            _ => Modulation::Qam64,
+        }
+    }
+
+    // The shape of its blocks.
+    pub fn shape(self) -> Shape
+        requires short { self.message ≤ 239 }
+        requires few { self.limit ≤ 8 }
+        ensures size { result.size ≡ self.message }
+        ensures limit { result.limit ≡ self.limit }
+    {
+        Shape {
+            size: self.message,
+            limit: self.limit,
+        }
+    }
 }
 
 impl InnerRate {

@@ -1,5 +1,5 @@
 // Why a call refuses. `number` of specs/Refusals.antt gives each its number.
-#[derive(Clone, Copy)]
+#[derive(Clone, Copy, Debug, PartialEq, Eq)]
 pub enum Refusal {
     // the rate is none of the seven
     Rate,

@@ -4,7 +4,7 @@ ghost use Rattle.std.specs.Prelude.{◌≡◌};
 use crate::refusal::Refusal;
 
 impl Refusal {
-    // The number that a maker sees.
+    // The number that a maker sees; by name, since `u8::from` would not say which number.
     pub fn number(self) -> u8
         ensures { result ≡ numbered self }
     {

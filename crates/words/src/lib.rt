@@ -17,7 +17,7 @@ pub fn digit(b: bool) -> u8
     ensures value { result ≡ digited b }
     ensures below { result < 2 }
 {
-    if b { 1 } else { 0 }
+    u8::from(b)
 }
 
 // The four bits from `at` on as a number, highest first.
