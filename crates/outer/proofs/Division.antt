@@ -1,62 +1,56 @@
 -- The division by the generator, one byte of the message a time.
 -- Assumes nothing.
-use Rattle.std.proofs.Common.{◌≡◌, ℕ, suc, ◌+◌, ◌<◌, List, length, get_or, replicate, sym, ap, ◌∙◌, ap₂, add-one, arith}
-use lib.Bits.{bit_xor}
-use Rattle.std.proofs.lemmas.List.{ext_get_or, get_or_past}
+use Rattle.std.proofs.Common.{◌≡◌, ℕ, suc, ◌+◌, ◌<◌, List, [], ◌∷◌, ◌++◌, length, get_or, take, drop, sym, ap, ◌∙◌, ap₂, arith, rules}
+use Rattle.std.proofs.lemmas.List.{ext_get_or, take_more, places}
 use Rattle.field.specs.Field.{◌⊕◌, ◌⊗◌, gexp}
-use Rattle.field.proofs.Field.{zero_mul, add_zero, zero_add}
-use Rattle.words.specs.Words.{Bytes, part}
+use Rattle.field.proofs.Field.{zero_mul, add_zero}
 use Rattle.outer_code.specs.Parity.{generator, next, parity_of}
-use Rattle.outer_code.proofs.Parity.{length_next, next_at, parity_none}
-use Rattle.outer_code.proofs.Blocks.{parity_part}
-use Rattle.outer_code.proofs.Filled.{Filled}
+use Rattle.outer_code.proofs.Parity.{length_next, next_at, parity_more}
 
--- the rest moved up by one place
-abbrev pub moved : List ℕ → ℕ → ℕ
-moved old k = get_or old (suc k) 0
-
--- .. with 02^e times the generator added
+-- 02^e times the generator added to the rest
 abbrev pub added : ℕ → List ℕ → ℕ → ℕ
-added e old k = get_or old (suc k) 0 ⊕ (gexp e ⊗ get_or generator k 0)
+added e rest k = get_or rest k 0 ⊕ (gexp e ⊗ get_or generator k 0)
 
--- the byte above place i, which is not written yet
-pub above : (f : ℕ → ℕ) (old new : List ℕ) (i : ℕ) → Filled f 0 i old new → get_or new (i + 1) 0 ≡ get_or old (suc i) 0
-above f old new i filled = filled.behind (i + 1) (omega arith) ∙ ap (λ (m : ℕ). get_or old m 0) (add-one i)
+-- all places of a list from m on, and 0 behind them
+moved_long : (n m : ℕ) (old kept : List ℕ) → length old ≡ m + n → kept ≡ take n (drop m old) → length (kept ++ 0 ∷ []) ≡ n + 1
+moved_long n m old kept long is = rw is (search (rules, places))
 
-pub added_at : (e c : ℕ) (old new : List ℕ) (i : ℕ) → Filled (added e old) 0 i old new → c ≡ gexp e ⊗ get_or generator i 0 → bit_xor (get_or new (i + 1) 0) c ≡ added e old i
-unfolding ◌⊕◌
-added_at e c old new i filled is = ap₂ bit_xor (above (added e old) old new i filled) is
+moved_at : (n m : ℕ) (old kept : List ℕ) → length old ≡ m + n → kept ≡ take n (drop m old) → (k : ℕ) → k < n + 1 → get_or (kept ++ 0 ∷ []) k 0 ≡ get_or old (m + k) 0
+moved_at n m old kept long is k h = rw is (grind (arith, places))
 
--- above the last place is nothing
-pub added_last : (e c : ℕ) (old : List ℕ) → length old ≡ 16 → c ≡ gexp e ⊗ get_or generator 15 0 → c ≡ added e old 15
-added_last e c old long is =
-    is ∙ sym (zero_add (gexp e ⊗ get_or generator 15 0)) ∙ ap (λ (x : ℕ). x ⊕ (gexp e ⊗ get_or generator 15 0)) (sym (get_or_past old 16 0 (omega arith)))
+-- ---- one step: the rest moves up by one place, and the feedback is the byte plus what leaves it
+module _ (old kept : List ℕ) (byte : ℕ) (lo : length old ≡ 16) (copied : kept ≡ take 15 (drop 1 old)) where
+  moved : List ℕ
+  moved = kept ++ 0 ∷ []
 
-pub moved_last : (old : List ℕ) → length old ≡ 16 → 0 ≡ moved old 15
-moved_last old long = sym (get_or_past old 16 0 (omega arith))
+  long : length moved ≡ 16
+  unfolding moved
+  long = moved_long 15 1 old kept lo copied
 
--- ---- one step: the feedback is the byte plus what leaves the rest
-module _ (old new : List ℕ) (byte : ℕ) (lo : length old ≡ 16) (ln : length new ≡ 16) where
-  stepped : (feedback : ℕ) → feedback ≡ byte ⊕ get_or old 0 0
-      → ((k : ℕ) → k < 16 → get_or new k 0 ≡ get_or old (suc k) 0 ⊕ (feedback ⊗ get_or generator k 0)) → new ≡ next old byte
-  stepped feedback is at =
+  up : (k : ℕ) → k < 16 → get_or moved k 0 ≡ get_or old (suc k) 0
+  unfolding moved
+  up k h = moved_at 15 1 old kept lo copied k h ∙ ap (λ (m : ℕ). get_or old m 0) (let e : 1 + k ≡ suc k = omega arith in e)
+
+  stepped : (feedback : ℕ) (new : List ℕ) → length new ≡ 16 → feedback ≡ byte ⊕ get_or old 0 0
+      → ((k : ℕ) → k < 16 → get_or new k 0 ≡ get_or moved k 0 ⊕ (feedback ⊗ get_or generator k 0)) → new ≡ next old byte
+  stepped feedback new ln is at =
       ext_get_or 0 new (next old byte) (ln ∙ sym (length_next old byte lo))
       (λ k l. (let h : k < 16 = omega arith in
-      at k h ∙ ap (λ (x : ℕ). get_or old (suc k) 0 ⊕ (x ⊗ get_or generator k 0)) is ∙ sym (next_at old byte k lo h)))
+      at k h ∙ ap₂ (λ (x y : ℕ). x ⊕ (y ⊗ get_or generator k 0)) (up k h) is ∙ sym (next_at old byte k lo h)))
 
-  pub step_moved : bit_xor byte (get_or old 0 0) ≡ 0 → ((k : ℕ) → k < 16 → get_or new k 0 ≡ moved old k) → new ≡ next old byte
-  unfolding ◌⊕◌
-  step_moved none at =
-      stepped 0 (sym none)
-      (λ k h. at k h ∙ sym (ap (λ (x : ℕ). get_or old (suc k) 0 ⊕ x) (zero_mul (get_or generator k 0)) ∙ add_zero (get_or old (suc k) 0)))
+  pub step_moved : byte ⊕ get_or old 0 0 ≡ 0 → kept ++ 0 ∷ [] ≡ next old byte
+  unfolding moved
+  step_moved none =
+      stepped 0 moved long (sym none)
+      (λ k h. sym (ap (λ (x : ℕ). get_or moved k 0 ⊕ x) (zero_mul (get_or generator k 0)) ∙ add_zero (get_or moved k 0)))
 
-  pub step_added : (e : ℕ) → gexp e ≡ bit_xor byte (get_or old 0 0) → ((k : ℕ) → k < 16 → get_or new k 0 ≡ added e old k) → new ≡ next old byte
-  unfolding ◌⊕◌
-  step_added e is at = stepped (gexp e) is at
+  pub step_added : (e : ℕ) (new : List ℕ) → length new ≡ 16 → gexp e ≡ byte ⊕ get_or old 0 0
+      → ((k : ℕ) → k < 16 → get_or new k 0 ≡ added e (kept ++ 0 ∷ []) k) → new ≡ next old byte
+  unfolding moved
+  step_added e new ln is at = stepped (gexp e) new ln is at
 
--- ---- all bytes of a message
-pub divided_start : (from : ℕ) (w : Bytes) → replicate 16 0 ≡ parity_of (part 0 from w)
-divided_start from w = sym parity_none
-
-pub divided_more : (r : List ℕ) (k from : ℕ) (w : Bytes) (new : List ℕ) → r ≡ parity_of (part k from w) → new ≡ next r (w (from + k)) → new ≡ parity_of (part (k + 1) from w)
-divided_more r k from w new so is = is ∙ ap (λ (x : List ℕ). next x (w (from + k))) so ∙ sym (parity_part k from w)
+-- ---- one more byte of a message
+pub parity_next : (d : List ℕ) (i : ℕ) (rest new : List ℕ) → i < length d → rest ≡ parity_of (take i d) → new ≡ next rest (get_or d i 0)
+    → new ≡ parity_of (take (i + 1) d)
+parity_next d i rest new h so is =
+    is ∙ ap (λ (r : List ℕ). next r (get_or d i 0)) so ∙ sym (parity_more (take i d) (get_or d i 0)) ∙ ap parity_of (sym (take_more d i 0 h))

@@ -1,14 +1,15 @@
 //! The outer encoder: before each block of a message it writes the block's parity.
 #![tactic(auto)]
 
-ghost use Rattle.std.specs.Prelude.{◌≡◌, ℕ, suc, ◌+◌, ◌*◌, ◌<◌, ◌≤◌, length, slice_index, slice_index_or};
+ghost use Rattle.std.specs.Prelude.{◌≡◌, ℕ, ◌+◌, ◌*◌, ◌<◌, ◌≤◌, length, slice_index, slice_index_or};
 ghost use Rattle.field.specs.Field.{◌⊕◌, ◌⊗◌, gexp};
-ghost use Rattle.outer_code.specs.Blocks.{blocks};
+ghost use Rattle.outer_code.specs.Blocks.{block_of, blocks};
 ghost use Rattle.outer_code.specs.Outer.{Outer};
 ghost use Rattle.outer_code.specs.Parity.{generator, next, parity_of};
 ghost use Rattle.words.specs.Words.{part, word};
 
 use field::{log, power};
+use standard::shape::Shape;
 
 // The logarithms of the generator's coefficients, highest power first, but for that of x^16, which is 1.
 const GENERATOR_LOGS: [u8; 16] = [
@@ -24,93 +25,64 @@ fn coefficient(exponent: u8, i: usize) -> u8
     power(exponent as usize + GENERATOR_LOGS[i] as usize)
 }
 
-// Moves the rest up by one place.
-fn shift(rest: &mut [u8; 16])
-    ensures { (k : ℕ) → k < 16 → slice_index rest.new k ≡ slice_index rest.old (suc k) }
-{
-    for i in 0..15usize {
-        rest[i] = rest[i + 1];
-    }
-    rest[15] = 0;
-}
-
-// Moves the rest up by one place and adds the generator times 02^`exponent`.
-fn shift_and_add(rest: &mut [u8; 16], exponent: u8)
+// Adds the generator times 02^`exponent` to the rest.
+fn add_generator(rest: &mut [u8; 16], exponent: u8)
     requires { exponent < 255 }
-    ensures { (k : ℕ) → k < 16 → slice_index rest.new k ≡ slice_index_or rest.old (suc k) 0 ⊕ (gexp exponent ⊗ slice_index_or generator k 0) }
+    ensures { (k : ℕ) → k < 16 → slice_index rest.new k ≡ slice_index rest.old k ⊕ (gexp exponent ⊗ slice_index_or generator k 0) }
 {
-    for i in 0..15usize {
-        rest[i] = rest[i + 1] ^ coefficient(exponent, i);
+    for (i, place) in rest.iter_mut().enumerate() {
+        *place ^= coefficient(exponent, i);
     }
-    rest[15] = coefficient(exponent, 15);
 }
 
-// Takes one more byte of the message into the rest. The feedback's logarithm is looked up once for all coefficients.
-fn divide(rest: &mut [u8; 16], byte: u8)
-    ensures { rest.new ≡ next rest.old byte }
+// The rest after one more byte of the message. The feedback's logarithm is looked up once for all coefficients.
+fn divide(rest: &[u8; 16], byte: u8) -> [u8; 16]
+    ensures { result ≡ next rest.now byte }
 {
     let feedback = byte ^ rest[0];
-    if feedback == 0 {
-        shift(rest);
-    } else {
-        shift_and_add(rest, log(feedback));
+    let mut moved = [0; 16];
+    moved[..15].copy_from_slice(&rest[1..]);
+    if feedback != 0 {
+        add_generator(&mut moved, log(feedback));
     }
+    moved
 }
 
-// The parity of the `size` bytes of the message from `from` on.
-fn parity(message: &[u8], from: usize, size: usize) -> [u8; 16]
-    requires { from + size ≤ length message.now }
-    ensures { result ≡ parity_of (part size from (word message.now)) }
+fn parity(message: &[u8]) -> [u8; 16]
+    ensures { result ≡ parity_of message.now }
 {
     let mut rest = [0; 16];
-    for k in 0..size {
-        divide(&mut rest, message[from + k]);
+    for byte in message {
+        rest = divide(&rest, *byte);
     }
     rest
 }
 
-// Writes `count` bytes of `source`, from `from` on, to `coded`, from `at` on.
-fn copy(source: &[u8], from: usize, count: usize, coded: &mut [u8], at: usize)
-    requires there { from + count ≤ length source.now }
-    requires room { at + count ≤ length coded.old }
-    ensures copied { (k : ℕ) → k < count → slice_index coded.new (at + k) ≡ slice_index source.now (from + k) }
-    ensures kept { (k : ℕ) → k < at → slice_index coded.new k ≡ slice_index coded.old k }
-    ensures past { (k : ℕ) → at + count ≤ k → slice_index coded.new k ≡ slice_index coded.old k }
+// Writes the block of a message: what is sent of its parity, then the message.
+fn encode_block(shape: Shape, message: &[u8], coded: &mut [u8])
+    requires message { length message.now ≡ shape.size }
+    requires coded { length coded.old ≡ 2 * shape.limit + shape.size }
+    ensures { coded.new ≡ block_of shape.limit message.now }
 {
-    for k in 0..count {
-        coded[at + k] = source[from + k];
-    }
+    let parity = parity(message);
+    let sent = shape.parity();
+    coded[..sent].copy_from_slice(&parity[..sent]);
+    coded[sent..].copy_from_slice(message);
 }
 
-// Writes block `b` of the message: the first 2 * `limit` bytes of its parity, then its `size` bytes.
-fn encode_block(size: usize, limit: usize, b: usize, message: &[u8], coded: &mut [u8])
-    requires some { 0 < size }
-    requires few { limit ≤ 8 }
-    requires there { size * b + size ≤ length message.now }
-    requires room { (2 * limit + size) * b + (2 * limit + size) ≤ length coded.old }
-    ensures coded { (t : ℕ) → t < 2 * limit + size → slice_index coded.new ((2 * limit + size) * b + t) ≡ blocks size limit (word message.now) ((2 * limit + size) * b + t) }
-    ensures kept { (k : ℕ) → k < (2 * limit + size) * b → slice_index coded.new k ≡ slice_index coded.old k }
-    ensures past { (k : ℕ) → (2 * limit + size) * b + (2 * limit + size) ≤ k → slice_index coded.new k ≡ slice_index coded.old k }
+// Writes the blocks of `count` messages of one shape.
+pub fn encode(shape: Shape, count: usize, message: &[u8], coded: &mut [u8])
+    requires some { 0 < shape.size }
+    requires there { count * shape.size ≤ length message.now }
+    requires room { count * (2 * shape.limit + shape.size) ≤ length coded.old }
+    ensures coded { (i : ℕ) → i < count * (2 * shape.limit + shape.size) → slice_index coded.new i ≡ blocks shape.size shape.limit (word message.now) i }
+    ensures past { (k : ℕ) → count * (2 * shape.limit + shape.size) ≤ k → slice_index coded.new k ≡ slice_index coded.old k }
+    ensures words { (b : ℕ) → b < count → Outer shape.size shape.limit (part (2 * shape.limit + shape.size) ((2 * shape.limit + shape.size) * b) (word coded.new)) }
 {
-    let from = size * b;
-    let at = (2 * limit + size) * b;
-    let parity = parity(message, from, size);
-    copy(&parity, 0, 2 * limit, coded, at);
-    copy(message, from, size, coded, at + 2 * limit);
-}
-
-// Writes the blocks of `count` messages of `size` bytes each, with the parity that is meant to bear `limit` wrong bytes.
-pub fn encode(size: usize, limit: usize, count: usize, message: &[u8], coded: &mut [u8])
-    requires some { 0 < size }
-    requires short { size ≤ 239 }
-    requires few { limit ≤ 8 }
-    requires there { count * size ≤ length message.now }
-    requires room { count * (2 * limit + size) ≤ length coded.old }
-    ensures coded { (i : ℕ) → i < count * (2 * limit + size) → slice_index coded.new i ≡ blocks size limit (word message.now) i }
-    ensures past { (k : ℕ) → count * (2 * limit + size) ≤ k → slice_index coded.new k ≡ slice_index coded.old k }
-    ensures words { (b : ℕ) → b < count → Outer size limit (part (2 * limit + size) ((2 * limit + size) * b) (word coded.new)) }
-{
+    let size = shape.size;
+    let block = shape.block();
     for b in 0..count {
-        encode_block(size, limit, b, message, coded);
+        let message = &message[size * b..size * b + size];
+        encode_block(shape, message, &mut coded[block * b..block * b + block]);
     }
 }

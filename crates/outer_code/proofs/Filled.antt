@@ -1,6 +1,6 @@
 -- A list that is written place by place.
 -- Assumes nothing.
-use Rattle.std.proofs.Common.{◌≡◌, ℕ, ◌+◌, ◌<◌, ◌≤◌, ◌≢◌, List, length, get_or, set, sym, refl, ap, ◌∙◌, subst, arith, length-set, get_or-set_other, get_or-set_same}
+use Rattle.std.proofs.Common.{◌≡◌, ℕ, ◌+◌, ◌<◌, ◌≤◌, ◌≢◌, List, length, get_or, set, sym, refl, ap, ◌∙◌, arith, length-set, get_or-set_other, get_or-set_same}
 use native.Mathlib.Decide.{ℕ_discrete}
 
 -- the places from first to last - 1 have got the values of f, and the others are as they were
@@ -32,15 +32,3 @@ filled_more f first last v old new filled ordered within is =
         ap (λ (m : ℕ). get_or (set new last v) m 0) e
         ∙ get_or-set_same new last v 0 (let w : last < length new = omega (arith, filled.long) in w) ∙ is ∙ ap f (sym e)
     at k l h (no n) = other k n ∙ filled.inside k l (omega arith)
-
--- after a loop that left the last place n for the end
-pub filled_last : (f : ℕ → ℕ) (i n v : ℕ) (old new : List ℕ) → Filled f 0 i old new → i ≤ n → n ≤ i → n < length old → v ≡ f n
-    → (k : ℕ) → k < n + 1 → get_or (set new n v) k 0 ≡ f k
-filled_last f i n v old new filled low high within is k h =
-    (filled_more f 0 n v old new (subst (λ (m : ℕ). Filled f 0 m old new) (let e : i ≡ n = omega arith in e) filled) (omega arith) within is).inside k (omega arith) h
-
-pub filled_next : (f : ℕ → ℕ) (at k v : ℕ) (old new : List ℕ) → Filled f at (at + k) old new → at + k < length old → v ≡ f (at + k)
-    → Filled f at (at + (k + 1)) old (set new (at + k) v)
-filled_next f at k v old new filled within is =
-    subst (λ (m : ℕ). Filled f at m old (set new (at + k) v)) (let e : at + k + 1 ≡ at + (k + 1) = omega arith in e)
-    (filled_more f at (at + k) v old new filled (omega arith) within is)

@@ -1,13 +1,9 @@
 -- Eight new bits at once, as the code takes them.
 -- Assumes nothing.
-use Rattle.std.specs.Prelude.{ℕ, ◌+◌, ◌*◌, ◌/◌, ◌%◌}
+use Rattle.std.specs.Prelude.{ℕ}
 use Rattle.words.specs.Words.{value}
 use Rattle.scrambler.specs.Scrambler.{fresh, after}
 
 -- the first k new bits as a number, the first highest
 unfoldable pub key : ℕ → ℕ → ℕ
 key k r = value k (λ t. fresh (after t r))
-
--- four bits in the other order
-unfoldable pub turned : ℕ → ℕ
-turned n = 8 * (n % 2) + 4 * (n / 2 % 2) + 2 * (n / 4 % 2) + n / 8 % 2

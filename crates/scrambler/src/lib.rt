@@ -2,61 +2,65 @@
 #![tactic(auto)]
 
 ghost use Rattle.std.specs.Prelude.{ℕ, ◌*◌, ◌<◌, ◌≤◌, ◌^◌, get_or, length, ◌≡◌};
-ghost use Rattle.scrambler.specs.Eight.{key as keyed, turned};
+ghost use Rattle.scrambler.specs.Eight.{key as keyed};
 ghost use Rattle.scrambler.specs.Scrambler.{after, scrambled, start as started};
 ghost use Rattle.words.specs.Words.{word};
 
-// The register that a burst starts from: stage 1 highest.
-pub fn start(bsid: u8, uiuc: u8, frame: u8) -> u16
-    requires bsid { bsid ≤ 15 }
-    requires uiuc { uiuc ≤ 15 }
-    requires frame { frame ≤ 15 }
-    ensures value { result ≡ started bsid uiuc frame }
-    ensures below { result < 2 ^ 15 }
-{
-    bsid as u16 * 2048 + 1536 + uiuc as u16 * 32 + 16 + frame as u16
+use std::marker::Model;
+
+// Its fifteen stages as a number, stage 1 highest.
+#[derive(Clone, Copy, Debug, PartialEq, Eq)]
+pub struct Register {
+    stages: u16,
 }
 
-// Four bits in the other order.
-const TURNED: [u16; 16] = [0, 8, 4, 12, 2, 10, 6, 14, 1, 9, 5, 13, 3, 11, 7, 15];
+impl Model for Register {
+    ghost Value = { ℕ };
 
-fn turn(n: u16) -> u16
-    requires { n < 16 }
-    ensures value { result ≡ turned n }
-    ensures below { result < 16 }
-{
-    TURNED[n as usize]
+    ghost view = { λ r. r.stages };
+
+    ghost invariant = { λ r. r.stages < 2 ^ 15 };
+
+    ghost inverse = { λ n. record { stages = n } };
 }
 
-// The next eight new bits, the first highest, and the register after them. What is pushed comes out fourteen bits
-// later, so the register gives all eight: they are the low bits of its sum with itself moved by one stage.
-fn eight(register: u16) -> (u16, u16)
-    requires { register < 2 ^ 15 }
-    ensures key { result.0 ≡ keyed 8 register }
-    ensures register { result.1 ≡ after 8 register }
-{
-    let fresh = (register ^ (register >> 1)) % 256;
-    (
-        turn(fresh % 16) * 16 + turn(fresh / 16),
-        fresh * 128 + register / 256,
-    )
-}
-
-// Scrambles the first `count` bytes from the register on, and returns the register that is left. To scramble again
-// from the same register undoes it.
-pub fn scramble(register: u16, count: usize, bytes: &mut [u8]) -> u16
-    requires register { register < 2 ^ 15 }
-    requires room { count ≤ length bytes.old }
-    ensures bytes { (i : ℕ) → i < count → get_or bytes.new i 0 ≡ scrambled register (word bytes.old) i }
-    ensures rest { (i : ℕ) → count ≤ i → get_or bytes.new i 0 ≡ get_or bytes.old i 0 }
-    ensures register { result ≡ after (8 * count) register }
-    ensures undone { (i : ℕ) → i < count → scrambled register (word bytes.new) i ≡ get_or bytes.old i 0 }
-{
-    let mut left = register;
-    for i in 0..count {
-        let (key, next) = eight(left);
-        bytes[i] ^= key as u8;
-        left = next;
+impl Register {
+    // The register that a burst starts from.
+    pub fn start(bsid: u8, uiuc: u8, frame: u8) -> Register
+        requires bsid { bsid ≤ 15 }
+        requires uiuc { uiuc ≤ 15 }
+        requires frame { frame ≤ 15 }
+        ensures { result ≡ started bsid uiuc frame }
+    {
+        Register {
+            stages: bsid as u16 * 2048 + 1536 + uiuc as u16 * 32 + 16 + frame as u16,
+        }
     }
-    left
+
+    // The next eight new bits, the first highest, and the register after them. What is pushed comes out fourteen bits
+    // later, so the register gives all eight: they are the low bits of its sum with itself moved by one stage.
+    fn eight(self) -> (u8, Register)
+        ensures key { result.0 ≡ keyed 8 self }
+        ensures register { result.1 ≡ after 8 self }
+    {
+        let fresh = ((self.stages ^ (self.stages >> 1)) % 256) as u8;
+        let stages = fresh as u16 * 128 + self.stages / 256;
+        (fresh.reverse_bits(), Register { stages })
+    }
+
+    // Scrambles the bytes from the register on, and returns the register that is left. To scramble again from the same
+    // register undoes it.
+    pub fn scramble(self, bytes: &mut [u8]) -> Register
+        ensures bytes { (i : ℕ) → i < length bytes.old → get_or bytes.new i 0 ≡ scrambled self (word bytes.old) i }
+        ensures register { result ≡ after (8 * length bytes.old) self }
+        ensures undone { (i : ℕ) → i < length bytes.old → scrambled self (word bytes.new) i ≡ get_or bytes.old i 0 }
+    {
+        let mut left = self;
+        for byte in bytes.iter_mut() {
+            let (key, next) = left.eight();
+            *byte ^= key;
+            left = next;
+        }
+        left
+    }
 }

@@ -5,4 +5,5 @@ use Rattle.outer.proofs.Encoding.{Written}
 use Rattle.outer.proofs.encode.Given as goal
 
 abbrev pub invariant-loop-b : goal.invariant-loop-b
-invariant-loop-b l = Written (blocks l.size l.limit (word l.message)) (2 * l.limit + l.size) l.b l.initial.coded l.coded
+invariant-loop-b l =
+    Written (blocks l.shape.size l.shape.limit (word l.message)) (2 * l.shape.limit + l.shape.size) l.b l.initial.coded l.coded

@@ -1,15 +1,12 @@
-use Rattle.std.proofs.Common.{◌∙◌, arith}
-use Rattle.words.specs.Words.{word}
-use Rattle.outer.proofs.Encoding.{block_written}
+use Rattle.std.proofs.Common.{◌++◌, ◌∙◌, List, ℕ, take, ap₂, arith}
+use Rattle.std.proofs.lemmas.List.{length-take-le}
+use Rattle.outer_code.specs.Blocks.{block_of}
+use Rattle.outer.proofs.Encoding.{halves}
 use Rattle.outer.proofs.encode_block.Goals as goal
 
 pub returns : goal.returns
+unfolding block_of
 returns c =
-    record {
-      coded =
-          block_written c.args.size c.args.limit c.requires.some c.requires.few (word c.args.message.now) c.args.b
-          c.parity-parity.result c.copy.new.coded c.copy-2.new.coded c.parity-parity.ensures
-          c.copy.ensures.copied c.copy-2.ensures.kept c.copy-2.ensures.copied;
-      kept = λ k h. c.copy-2.ensures.kept k (omega arith) ∙ c.copy.ensures.kept k h;
-      past = λ k h. c.copy-2.ensures.past k (omega arith) ∙ c.copy.ensures.past k (omega arith);
-    }
+    halves c.parity-sent.result c.args.coded.now c.copy_from_slice.new.self c.copy_from_slice-2.new.self
+    (let l = length-take-le c.parity-sent.result c.args.coded.now (omega arith) in omega (arith, c.copy_from_slice.ensures.len)) (omega arith)
+    ∙ ap₂ (λ (a b : List ℕ). a ++ b) (c.copy_from_slice.ensures.after ∙ ap₂ take c.parity-sent.ensures c.parity-parity.ensures) c.copy_from_slice-2.ensures.after

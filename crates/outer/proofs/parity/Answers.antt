@@ -1,10 +1,11 @@
-use Rattle.words.specs.Words.{word}
-use Rattle.outer.proofs.Division.{divided_start, divided_more}
+use Rattle.std.proofs.Common.{sym, arith}
+use Rattle.outer_code.proofs.Parity.{parity_none}
+use Rattle.outer.proofs.Division.{parity_next}
 use Rattle.outer.proofs.parity.Goals as goal
 
-pub loop-k-init : goal.loop-k-init
-loop-k-init c = divided_start c.args.from (word c.args.message.now)
+pub loop-byte-init : goal.loop-byte-init
+loop-byte-init c = sym parity_none
 
-pub loop-k-preserved : goal.loop-k-preserved
-loop-k-preserved c =
-    divided_more c.loop-k.rest c.loop-k.k c.args.from (word c.args.message.now) c.divide.new.rest c.loop-k.invariant c.divide.ensures
+pub loop-byte-preserved : goal.loop-byte-preserved
+loop-byte-preserved c =
+    parity_next c.args.message.now c.loop-byte.byte-index c.loop-byte.rest c.divide-rest.result (omega arith) c.loop-byte.invariant c.divide-rest.ensures
