@@ -4,3 +4,4 @@ pub mod Steps
 pub mod Evaluating
 pub mod Folding
 pub mod Slices
+pub mod Blocks

@@ -1,15 +1,13 @@
 -- What each byte of a block gives to its syndromes.
 -- Assumes nothing.
-use Rattle.std.proofs.Common.{◌≡◌, ℕ, ◌+◌, ◌-◌, ◌%◌, ◌<◌, ◌≤◌, List, get_or, replicate, sym, ap, ◌∙◌, ap₂, add-one, arith}
-use Rattle.std.proofs.lemmas.List.{get_or-replicate}
+use Rattle.std.proofs.Common.{◌≡◌, ℕ, ◌+◌, ◌-◌, ◌%◌, ◌<◌, List, length, get_or, sym, ap, ◌∙◌, ap₂, add-one}
 use Rattle.field.specs.Field.{◌⊕◌, ◌⊗◌, gexp, gpow}
-use Rattle.field.proofs.Field.{add_zero, exp_mul, zero_mul}
+use Rattle.field.proofs.Field.{add_assoc, add_zero, exp_mul, zero_mul}
 use Rattle.words.specs.Words.{Bytes}
 use Rattle.outer_theory.specs.Sums.{sum}
 use Rattle.outer_theory.specs.Syndromes.{V, X, place, weight, syndrome}
 use Rattle.outer_theory.proofs.Products.{exp_mod}
 use Rattle.outer_theory.proofs.Sums.{sum_suc}
-use Rattle.outer_theory.proofs.Order.{order, order_sum}
 
 -- what byte k gives to the syndrome j
 abbrev pub share : ℕ → ℕ → Bytes → ℕ → ℕ → ℕ
@@ -26,19 +24,20 @@ share_none t n k byte j v e =
     sym (ap (λ (y : ℕ). v ⊕ ((y ⊗ V t n k) ⊗ gpow (X t n k) j)) e
     ∙ ap (λ (y : ℕ). v ⊕ (y ⊗ gpow (X t n k) j)) (zero_mul (V t n k)) ∙ ap (λ (y : ℕ). v ⊕ y) (zero_mul (gpow (X t n k) j)) ∙ add_zero v)
 
--- the bytes that were taken first
-abbrev pub Summed : ℕ → ℕ → Bytes → List ℕ → ℕ → Type 0
-Summed t n w sums i = (j : ℕ) → j < t → get_or sums j 0 ≡ sum i (λ q. share t n w j (order t n q))
+-- the first k bytes have been added to the syndromes
+abbrev pub Summed : ℕ → ℕ → Bytes → List ℕ → List ℕ → ℕ → Type 0
+Summed t n w old sums k = (j : ℕ) → j < length old → get_or sums j 0 ≡ get_or old j 0 ⊕ sum k (share t n w j)
 
-pub summed_start : (t n : ℕ) (w : Bytes) → t ≤ 16 → Summed t n w (replicate 16 0) 0
+pub summed_start : (t n : ℕ) (w : Bytes) (old : List ℕ) → Summed t n w old old 0
 unfolding sum
-summed_start t n w h j l = get_or-replicate 16 j 0 0 (omega arith)
+summed_start t n w old j l = sym (add_zero (get_or old j 0))
 
-pub summed_more : (t n : ℕ) (w : Bytes) (sums sums' : List ℕ) (i k : ℕ) → k ≡ order t n i → ((j : ℕ) → j < t → get_or sums' j 0 ≡ get_or sums j 0 ⊕ ((w k ⊗ V t n k) ⊗ gpow (X t n k) j))
-    → Summed t n w sums i → Summed t n w sums' (i + 1)
-summed_more t n w sums sums' i k e h s j l =
-    h j l ∙ ap₂ ◌⊕◌ (s j l) (ap (share t n w j) e) ∙ sym (sum_suc i (λ q. share t n w j (order t n q))) ∙ ap (λ (m : ℕ). sum m (λ q. share t n w j (order t n q))) (sym (add-one i))
+pub summed_more : (t n : ℕ) (w : Bytes) (old sums sums' : List ℕ) (k : ℕ) → ((j : ℕ) → j < length old → get_or sums' j 0 ≡ get_or sums j 0 ⊕ share t n w j k)
+    → Summed t n w old sums k → Summed t n w old sums' (k + 1)
+summed_more t n w old sums sums' k h s j l =
+    h j l ∙ ap (λ (y : ℕ). y ⊕ share t n w j k) (s j l) ∙ add_assoc (get_or old j 0) (sum k (share t n w j)) (share t n w j k)
+    ∙ ap (λ (y : ℕ). get_or old j 0 ⊕ y) (sym (sum_suc k (share t n w j)) ∙ ap (λ (m : ℕ). sum m (share t n w j)) (sym (add-one k)))
 
-pub summed_end : (t n : ℕ) (w : Bytes) (sums : List ℕ) (i : ℕ) → t ≤ n → i ≡ n → Summed t n w sums i → (j : ℕ) → j < t → get_or sums j 0 ≡ syndrome t n w j
+pub summed_end : (t n : ℕ) (w : Bytes) (old sums : List ℕ) (k : ℕ) → k ≡ n → Summed t n w old sums k → (j : ℕ) → j < length old → get_or sums j 0 ≡ get_or old j 0 ⊕ syndrome t n w j
 unfolding syndrome
-summed_end t n w sums i h e s j l = s j l ∙ ap (λ (m : ℕ). sum m (λ q. share t n w j (order t n q))) e ∙ order_sum t n (share t n w j) h
+summed_end t n w old sums k e s j l = s j l ∙ ap (λ (m : ℕ). get_or old j 0 ⊕ sum m (share t n w j)) e

@@ -1,46 +1,20 @@
 -- One turn of the loops over rows and blocks.
 -- Assumes nothing.
-use Rattle.std.proofs.Common.{◌≡◌, ℕ, ◌+◌, ◌*◌, ◌<◌, ◌≤◌, ◌≢◌, List, length, get_or, set, sym, refl, ap, ◌∙◌, ap₂, le_refl, add-one, arith, get_or-set_other, get_or-set_same, below_more}
+use Rattle.std.proofs.Common.{◌≡◌, ℕ, suc, ◌+◌, ◌<◌, ◌≤◌, ◌≢◌, Bool, false, eqb, List, length, get_or, take, set, sym, refl, ap, ◌∙◌, ap₂, le_refl, add-one, arith, eq-eqb, ne_eqb, get_or-set_other, get_or-set_same, below_more}
+use native.Mathlib.Decide.{dec_le}
+use Rattle.std.proofs.lemmas.List.{length-take-le, get_or-take}
 use lib.Bits.{bit_xor}
 use Rattle.field.specs.Field.{◌⊕◌, ◌⊗◌}
 use Rattle.outer_code.proofs.Filled as F
 use Rattle.outer_code.proofs.Filled.{Filled}
 use Rattle.outer_theory.specs.Sums.{sum}
-use Rattle.outer_theory.proofs.Rows.{at}
-use Rattle.outer_theory.proofs.Sums.{sum_suc}
+use Rattle.words.specs.Words.{digit, flags}
+use Rattle.outer_theory.proofs.Rows.{at, applied, left_in, Triangular}
+use Rattle.outer_theory.proofs.Sums.{sum_suc, sum_same, count_none}
 
 pub filled_more : (s : List ℕ) (j v : ℕ) (P : ℕ → ℕ) → j < length s → ((k : ℕ) → k < j → get_or s k 0 ≡ P k) → v ≡ P j → (k : ℕ) → k < j + 1 → get_or (set s j v) k 0 ≡ P k
 filled_more s j v P h a e =
     below_more (λ k. get_or (set s j v) k 0 ≡ P k) j (λ k l. let ne : k ≢ j = omega arith in rw get_or-set_other (a k l)) (rw get_or-set_same e)
-
-module _ (old rows : List ℕ) (r p c l m : ℕ) (long : length rows ≡ 81) (hr : r < 9) (hp : p < r) (hl : l < 9)
-    (other : (i k : ℕ) → k < 9 → (i ≡ r → ⊥) → at rows i k ≡ at old i k)
-    (done : (k : ℕ) → k < l → at rows r k ≡ at old r k ⊕ (c ⊗ at old p k))
-    (left : (k : ℕ) → l ≤ k → at rows r k ≡ at old r k)
-    (is : m ≡ c ⊗ at rows p l) where
-  unfoldable pub new : List ℕ
-  new = set rows (r * 9 + l) (bit_xor (at rows r l) m)
-
-  pub row_other : (i k : ℕ) → k < 9 → (i ≡ r → ⊥) → at new i k ≡ at old i k
-  unfolding new
-  row_other i k h n =
-      let ne : i * 9 + k ≢ r * 9 + l = omega arith in
-      get_or-set_other rows (r * 9 + l) (i * 9 + k) (bit_xor (at rows r l) m) 0 ne ∙ other i k h n
-
-  pub row_left : (k : ℕ) → l + 1 ≤ k → at new r k ≡ at old r k
-  unfolding new
-  row_left k h =
-      let ne : r * 9 + k ≢ r * 9 + l = omega arith in
-      get_or-set_other rows (r * 9 + l) (r * 9 + k) (bit_xor (at rows r l) m) 0 ne ∙ left k (omega arith)
-
-  pub row_done : (k : ℕ) → k < l + 1 → at new r k ≡ at old r k ⊕ (c ⊗ at old p k)
-  unfolding new ◌⊕◌
-  row_done =
-      below_more (λ k. at new r k ≡ at old r k ⊕ (c ⊗ at old p k)) l
-      (λ k h. let ne : r * 9 + k ≢ r * 9 + l = omega arith in get_or-set_other rows (r * 9 + l) (r * 9 + k) (bit_xor (at rows r l) m) 0 ne ∙ done k h)
-      (let lt : r * 9 + l < length rows = omega arith in
-      get_or-set_same rows (r * 9 + l) (bit_xor (at rows r l) m) 0 lt
-      ∙ ap₂ bit_xor (left l (omega arith)) (is ∙ ap (λ (y : ℕ). c ⊗ y) (other p l hl (λ e. omega arith))))
 
 -- one more term of a sum
 pub sum_more : (n s r : ℕ) (f : ℕ → ℕ) → s ≡ sum n f → r ≡ f n → bit_xor s r ≡ sum (n + 1) f
@@ -51,13 +25,43 @@ pub sum_nothing : (f : ℕ → ℕ) → 0 ≡ sum 0 f
 unfolding sum
 sum_nothing f = refl
 
--- byte k with its error added
-abbrev pub corrected : List ℕ → List ℕ → ℕ → ℕ
-corrected old errors k = get_or old k 0 ⊕ get_or errors k 0
+-- value k with f k added
+abbrev pub added : (ℕ → ℕ) → List ℕ → ℕ → ℕ
+added f old k = get_or old k 0 ⊕ f k
 
-pub corrected_more : (old block errors : List ℕ) (k : ℕ) → k < length old → Filled (corrected old errors) 0 k old block
-    → Filled (corrected old errors) 0 (k + 1) old (set block k (bit_xor (get_or block k 0) (get_or errors k 0)))
+pub added_more : (f : ℕ → ℕ) (old s : List ℕ) (k m : ℕ) → k < length old → m ≡ f k → Filled (added f old) 0 k old s → Filled (added f old) 0 (k + 1) old (set s k (bit_xor (get_or s k 0) m))
 unfolding ◌⊕◌
-corrected_more old block errors k l w =
-    F.filled_more (corrected old errors) 0 k (bit_xor (get_or block k 0) (get_or errors k 0)) old block w (omega arith) l
-    (ap (λ (y : ℕ). bit_xor y (get_or errors k 0)) (w.behind k (le_refl k)))
+added_more f old s k m l e w =
+    F.filled_more (added f old) 0 k (bit_xor (get_or s k 0) m) old s w (omega arith) l (ap₂ bit_xor (w.behind k (le_refl k)) e)
+
+-- the unit rows
+pub triangular_units : (rows : List (List ℕ)) → ((r l : ℕ) → r < 9 → l < 9 → at rows r l ≡ digit (eqb l r)) → (limit : ℕ) → limit ≤ 8 → Triangular limit rows
+triangular_units rows u limit h =
+    record {
+      diagonal = λ r a. u r r (omega arith) (omega arith) ∙ ap digit (eq-eqb r r refl);
+      behind = λ r l a b. u r l (omega arith) (omega arith) ∙ ap digit (ne_eqb l r (λ e. omega arith));
+    }
+
+-- the terms of the first coefficients
+pub sum_taken : (n : ℕ) (a : List ℕ) (g : ℕ → ℕ) → n ≤ length a → sum (length (take n a)) (λ l. get_or (take n a) l 0 ⊗ g l) ≡ sum n (λ l. get_or a l 0 ⊗ g l)
+sum_taken n a g h =
+    ap (λ (m : ℕ). sum m (λ l. get_or (take n a) l 0 ⊗ g l)) (length-take-le n a h)
+    ∙ sum_same n (λ l. get_or (take n a) l 0 ⊗ g l) (λ l. get_or a l 0 ⊗ g l) (λ l b. ap (λ (y : ℕ). y ⊗ g l) (get_or-take n a l 0 b))
+
+-- a row and the syndromes from j on, combined
+pub applied_from : (limit : ℕ) (rows : List (List ℕ)) (r : ℕ) (s : List ℕ) (j v : ℕ) (ys : List ℕ) → ((l : ℕ) → l ≤ limit → get_or ys l 0 ≡ get_or s (j + l) 0)
+    → v ≡ sum (suc limit) (λ l. at rows r l ⊗ get_or ys l 0) → v ≡ applied limit rows r s j
+unfolding applied
+applied_from limit rows r s j v ys from e =
+    e ∙ sum_same (suc limit) (λ l. at rows r l ⊗ get_or ys l 0) (λ l. at rows r l ⊗ get_or s (j + l) 0) (λ l h. ap (λ (y : ℕ). at rows r l ⊗ y) (from l (omega arith)))
+
+-- no row was left so far
+pub none_left : (n r : ℕ) (left : List Bool) → ((k : ℕ) → k < r → flags left k ≡ false) → n ≤ r → left_in n left ≡ 0
+none_left n r left h few = count_none n (λ k. digit (flags left k)) (λ k l. ap digit (h k (omega arith)))
+
+pub row_left : (limit r : ℕ) (left : List Bool) → ((k : ℕ) → k < r → flags left k ≡ false) → 0 < left_in (suc limit) left → r ≤ limit
+row_left limit r left h some =
+    elim (dec_le r limit) [
+      | yes y ↦ y
+      | no n ↦ absurd (let e : left_in (suc limit) left ≡ 0 = none_left (suc limit) r left h (omega (arith, n)) in omega arith)
+    ]

@@ -1,4 +1,4 @@
-ghost use Rattle.std.specs.Prelude.{◌≡◌, ℕ, suc, ◌+◌, ◌-◌, ◌*◌, ◌<◌, ◌≤◌, slice_index, slice_index_or};
+ghost use Rattle.std.specs.Prelude.{◌≡◌, ℕ, suc, ◌+◌, ◌-◌, ◌*◌, ◌<◌, ◌≤◌, length, slice_index, slice_index_or};
 ghost use Rattle.field.specs.Field.{◌⊕◌, ◌⊗◌, gexp, gpow};
 ghost use Rattle.outer_theory.proofs.Errors.{Errors};
 ghost use Rattle.outer_theory.specs.Sums.{sum};
@@ -6,111 +6,112 @@ ghost use Rattle.outer_theory.specs.Syndromes.{X};
 
 use crate::syndromes::{add_powers, place, weight_log};
 use field::{inverse, log, mul, power};
+use standard::shape::Shape;
 
-// Adds what the coefficient of x^`l` gives to the locator's values at the first `n` powers of 02.
-fn add_coefficient(values: &mut [u8; 255], coefficient: u8, l: usize, n: usize)
-    requires few { l ≤ 8 }
-    requires short { n ≤ 255 }
-    ensures { (m : ℕ) → m < n → slice_index values.new m ≡ slice_index_or values.old m 0 ⊕ (coefficient ⊗ gpow (gexp m) l) }
+// Adds what the coefficient of x^`l` gives to the locator's values at the first powers of 02.
+fn add_coefficient(values: &mut [u8], coefficient: u8, l: usize)
+    requires { l ≤ 8 }
+    ensures { (m : ℕ) → m < length values.old → slice_index values.new m ≡ slice_index_or values.old m 0 ⊕ (coefficient ⊗ gpow (gexp m) l) }
 {
     if coefficient != 0 {
-        add_powers(values, n, log(coefficient) as usize, l);
+        add_powers(values, usize::from(log(coefficient)), l);
     }
 }
 
-// The locator's values at the first `n` powers of 02.
-fn values_of(locator: &[u8; 9], limit: usize, n: usize) -> [u8; 255]
-    requires few { limit ≤ 8 }
-    requires short { n ≤ 255 }
-    ensures { (m : ℕ) → m < n → slice_index result m ≡ sum (suc limit) (λ l. slice_index_or locator.now l 0 ⊗ gpow (gexp m) l) }
+// Adds the locator's values at the first powers of 02.
+fn add_values(values: &mut [u8], locator: &[u8])
+    requires { length locator.now ≤ 9 }
+    ensures { (m : ℕ) → m < length values.old → slice_index values.new m ≡ slice_index_or values.old m 0 ⊕ sum (length locator.now) (λ l. slice_index_or locator.now l 0 ⊗ gpow (gexp m) l) }
 {
-    let mut values = [0; 255];
-    for l in 0..limit + 1 {
-        add_coefficient(&mut values, locator[l], l, n);
+    for (l, coefficient) in locator.iter().enumerate() {
+        add_coefficient(values, *coefficient, l);
     }
+}
+
+// The locator's values at the powers of 02 that a block has.
+fn values_of(locator: &[u8; 9], shape: Shape) -> [u8; 255]
+    ensures { (m : ℕ) → m < 2 * shape.limit + shape.size → slice_index result m ≡ sum (suc shape.limit) (λ l. slice_index_or locator.now l 0 ⊗ gpow (gexp m) l) }
+{
+    let n = shape.block();
+    let locator = &locator[..shape.limit + 1];
+    let mut values = [0; 255];
+    add_values(&mut values[..n], locator);
     values
 }
 
-// The locator's value for each byte of a block: where it is 0, the byte may be wrong.
-pub(crate) fn marks_of(locator: &[u8; 9], limit: usize, n: usize) -> [u8; 255]
-    requires few { limit ≤ 8 }
-    requires some { 2 * limit ≤ n }
-    requires short { n ≤ 255 }
-    ensures { (k : ℕ) → k < n → slice_index result k ≡ sum (suc limit) (λ l. slice_index_or locator.now l 0 ⊗ gpow (X (2 * limit) n k) l) }
+// Marks each byte of a block with the locator's value for it: where it is 0, the byte may be wrong.
+pub(crate) fn mark(marks: &mut [u8], locator: &[u8; 9], shape: Shape)
+    requires { length marks.old ≡ 2 * shape.limit + shape.size }
+    ensures { (k : ℕ) → k < 2 * shape.limit + shape.size → slice_index marks.new k ≡ sum (suc shape.limit) (λ l. slice_index_or locator.now l 0 ⊗ gpow (X (2 * shape.limit) (2 * shape.limit + shape.size) k) l) }
 {
-    let values = values_of(locator, limit, n);
-    let mut marks = [0; 255];
-    for k in 0..n {
-        marks[k] = values[place(2 * limit, n, k)];
+    let values = values_of(locator, shape);
+    for (k, mark) in marks.iter_mut().enumerate() {
+        *mark = values[place(shape, k)];
     }
-    marks
 }
 
-// Takes the error whose locator is `x` out of the first `count` power sums, at the price of one of them: each other error is
+// Takes the error whose locator is `x` out of the power sums, at the price of the last of them: each other error is
 // multiplied by the sum of its locator and `x`.
-fn fold(sums: &mut [u8; 16], x: u8, count: usize)
-    requires { count ≤ 8 }
-    ensures { (j : ℕ) → j < count → slice_index sums.new j ≡ slice_index_or sums.old (j + 1) 0 ⊕ (x ⊗ slice_index_or sums.old j 0) }
+fn fold(sums: &mut [u8; 16], x: u8, shape: Shape)
+    ensures { (j : ℕ) → j < shape.limit → slice_index sums.new j ≡ slice_index_or sums.old (j + 1) 0 ⊕ (x ⊗ slice_index_or sums.old j 0) }
 {
-    for j in 0..count {
+    // Each turn reads two neighbours and writes one, which no iterator lends.
+    for j in 0..shape.limit {
         sums[j] = sums[j + 1] ^ mul(x, sums[j]);
     }
 }
 
-// The error at byte `k`, which is marked: all other marked bytes are taken out of the syndromes, and what is left is divided by
-// the weight of the byte and its distances from them.
-fn error_at(syndromes: &[u8; 16], marks: &[u8; 255], limit: usize, n: usize, k: usize) -> u8
-    requires few { limit ≤ 8 }
-    requires some { 2 * limit ≤ n }
-    requires short { n + (16 - 2 * limit) ≤ 255 }
-    requires within { k < n }
-    requires marked { slice_index marks.now k ≡ 0 }
-    ensures { (e : ℕ → ℕ) → Errors limit n syndromes.now marks.now e → result ≡ e k }
-{
-    let m = place(2 * limit, n, k);
-    let x = power(m);
-    let mut sums = *syndromes;
-    let mut divisor = power(weight_log(16 - 2 * limit, m));
-    for i in 0..n {
-        if i != k && marks[i] == 0 {
-            let y = power(place(2 * limit, n, i));
-            fold(&mut sums, y, limit);
-            divisor = mul(divisor, x ^ y);
+// What is known of a block: its syndromes, and for each byte the locator's value, which is 0 where the byte may be wrong.
+#[derive(Clone, Copy)]
+pub(crate) struct Findings<'a> {
+    pub(crate) syndromes: [u8; 16],
+    pub(crate) marks: &'a [u8],
+    pub(crate) shape: Shape,
+    ghost long: { length marks.now ≡ 2 * shape.limit + shape.size },
+}
+
+impl Findings<'_> {
+    // The error at byte `k`, which is marked: all other marked bytes are taken out of the syndromes, and what is left is divided
+    // by the weight of the byte and its distances from them.
+    fn error_at(&self, k: usize) -> u8
+        requires within { k < 2 * self.now.shape.limit + self.now.shape.size }
+        requires marked { slice_index self.now.marks.now k ≡ 0 }
+        ensures { (e : ℕ → ℕ) → Errors self.now.shape.limit (2 * self.now.shape.limit + self.now.shape.size) self.now.syndromes self.now.marks.now e → result ≡ e k }
+    {
+        let shape = self.shape;
+        let m = place(shape, k);
+        let x = power(m);
+        let mut sums = self.syndromes;
+        let mut divisor = power(weight_log(shape, m));
+        for (i, mark) in self.marks.iter().enumerate() {
+            if i != k && *mark == 0 {
+                let y = power(place(shape, i));
+                fold(&mut sums, y, shape);
+                divisor = mul(divisor, x ^ y);
+            }
+        }
+        mul(sums[0], inverse(divisor))
+    }
+
+    // The error at byte `k`.
+    fn error_of(&self, k: usize) -> u8
+        requires { k < 2 * self.now.shape.limit + self.now.shape.size }
+        ensures { (e : ℕ → ℕ) → Errors self.now.shape.limit (2 * self.now.shape.limit + self.now.shape.size) self.now.syndromes self.now.marks.now e → result ≡ e k }
+    {
+        if self.marks[k] == 0 {
+            self.error_at(k)
+        } else {
+            0
         }
     }
-    mul(sums[0], inverse(divisor))
-}
 
-// The error at byte `k`.
-fn error_of(syndromes: &[u8; 16], marks: &[u8; 255], limit: usize, n: usize, k: usize) -> u8
-    requires few { limit ≤ 8 }
-    requires some { 2 * limit ≤ n }
-    requires short { n + (16 - 2 * limit) ≤ 255 }
-    requires within { k < n }
-    ensures { (e : ℕ → ℕ) → Errors limit n syndromes.now marks.now e → result ≡ e k }
-{
-    if marks[k] == 0 {
-        error_at(syndromes, marks, limit, n, k)
-    } else {
-        0
+    // Finds the errors of the block, if there are any at the marked bytes alone that explain the syndromes.
+    pub(crate) fn find(&self, errors: &mut [u8])
+        requires { length errors.old ≡ 2 * self.now.shape.limit + self.now.shape.size }
+        ensures { (e : ℕ → ℕ) → Errors self.now.shape.limit (2 * self.now.shape.limit + self.now.shape.size) self.now.syndromes self.now.marks.now e → (k : ℕ) → k < 2 * self.now.shape.limit + self.now.shape.size → slice_index errors.new k ≡ e k }
+    {
+        for (k, error) in errors.iter_mut().enumerate() {
+            *error = self.error_of(k);
+        }
     }
-}
-
-// The errors of a block of `n` bytes, if there are any at the marked bytes alone that explain the syndromes.
-pub(crate) fn errors_of(
-    syndromes: &[u8; 16],
-    marks: &[u8; 255],
-    limit: usize,
-    n: usize,
-) -> [u8; 255]
-    requires few { limit ≤ 8 }
-    requires some { 2 * limit ≤ n }
-    requires short { n + (16 - 2 * limit) ≤ 255 }
-    ensures { (e : ℕ → ℕ) → Errors limit n syndromes.now marks.now e → (k : ℕ) → k < n → slice_index result k ≡ e k }
-{
-    let mut errors = [0; 255];
-    for k in 0..n {
-        errors[k] = error_of(syndromes, marks, limit, n, k);
-    }
-    errors
 }

@@ -12,136 +12,97 @@ ghost use Rattle.outer_theory.specs.Sums.{count};
 ghost use Rattle.outer_theory.specs.Syndromes.{syndrome};
 ghost use Rattle.words.specs.Words.{part, word};
 
-use errors::{errors_of, marks_of};
+use errors::{Findings, mark};
 use locator::locator;
+use standard::shape::Shape;
 use syndromes::syndromes;
 
-// The first `count` of the bytes are 0.
-fn all_zero(bytes: &[u8; 16], count: usize) -> bool
-    requires { count ≤ 16 }
-    ensures yes { result ≡ true → (j : ℕ) → j < count → slice_index bytes.now j ≡ 0 }
-    ensures no { result ≡ false → ((j : ℕ) → j < count → slice_index bytes.now j ≡ 0) → ⊥ }
+fn all_zero(bytes: &[u8]) -> bool
+    ensures yes { result ≡ true → (j : ℕ) → j < length bytes.now → slice_index bytes.now j ≡ 0 }
+    ensures no { result ≡ false → ((j : ℕ) → j < length bytes.now → slice_index bytes.now j ≡ 0) → ⊥ }
 {
-    for j in 0..count {
-        if bytes[j] != 0 {
-            return false;
-        }
-    }
-    true
+    bytes.iter().all(|b| *b == 0)
 }
 
-// The first `count` bytes are the same.
-fn same(a: &[u8; 16], b: &[u8; 16], count: usize) -> bool
-    requires { count ≤ 16 }
-    ensures yes { result ≡ true → (j : ℕ) → j < count → slice_index a.now j ≡ slice_index b.now j }
-    ensures no { result ≡ false → ((j : ℕ) → j < count → slice_index a.now j ≡ slice_index b.now j) → ⊥ }
+fn nonzero(bytes: &[u8]) -> usize
+    ensures { result ≡ count (length bytes.now) (word bytes.now) }
 {
-    for j in 0..count {
-        if a[j] != b[j] {
-            return false;
-        }
-    }
-    true
-}
-
-// How many of the first `n` bytes are not 0.
-fn nonzero(errors: &[u8; 255], n: usize) -> usize
-    requires { n ≤ 255 }
-    ensures { result ≡ count n (word errors.now) }
-{
-    let mut found = 0;
-    for k in 0..n {
-        if errors[k] != 0 {
-            found += 1;
-        }
-    }
-    found
+    bytes.iter().filter(|b| **b != 0).count()
 }
 
 // The errors have the syndromes that are given, so that without them the block is an outer word.
-fn explain(errors: &[u8; 255], given: &[u8; 16], n: usize, parity: usize) -> bool
-    requires some { parity ≤ n }
-    requires few { parity ≤ 16 }
-    requires short { n + (16 - parity) ≤ 255 }
-    ensures yes { result ≡ true → (j : ℕ) → j < parity → slice_index given.now j ≡ syndrome parity n (word errors.now) j }
-    ensures no { result ≡ false → ((j : ℕ) → j < parity → slice_index given.now j ≡ syndrome parity n (word errors.now) j) → ⊥ }
+fn explain(errors: &[u8], given: &[u8; 16], shape: Shape) -> bool
+    requires { length errors.now ≡ 2 * shape.limit + shape.size }
+    ensures yes { result ≡ true → (j : ℕ) → j < 2 * shape.limit → slice_index given.now j ≡ syndrome (2 * shape.limit) (2 * shape.limit + shape.size) (word errors.now) j }
+    ensures no { result ≡ false → ((j : ℕ) → j < 2 * shape.limit → slice_index given.now j ≡ syndrome (2 * shape.limit) (2 * shape.limit + shape.size) (word errors.now) j) → ⊥ }
 {
-    let explained = syndromes(errors, n, parity);
-    same(given, &explained, parity)
+    let explained = syndromes(errors, shape);
+    let parity = shape.parity();
+    given[..parity] == explained[..parity]
 }
 
 // Adds its error to each byte of a block.
-fn add_errors(block: &mut [u8], errors: &[u8; 255])
-    requires { length block.old ≤ 255 }
+fn add_errors(block: &mut [u8], errors: &[u8])
+    requires { length errors.now ≡ length block.old }
     ensures { (k : ℕ) → k < length block.old → slice_index block.new k ≡ slice_index_or block.old k 0 ⊕ slice_index_or errors.now k 0 }
 {
-    for k in 0..block.len() {
-        block[k] ^= errors[k];
+    for (k, byte) in block.iter_mut().enumerate() {
+        *byte ^= errors[k];
     }
 }
 
 // What `correct` does, given the syndromes of the block, whether they vanish or not.
-fn repair(
-    block: &mut [u8],
-    given: &[u8; 16],
-    size: usize,
-    limit: usize,
-    most: usize,
-) -> Option<usize>
-    requires few { limit ≤ 8 }
-    requires short { size ≤ 239 }
-    requires long { length block.old ≡ 2 * limit + size }
-    requires within { most ≤ limit }
-    requires syndromes { (j : ℕ) → j < 2 * limit → slice_index given.now j ≡ syndrome (2 * limit) (length block.old) (word block.old) j }
-    ensures { MatchOption result (Refused size limit most block.old block.new)
-        (λ wrong. Corrected size limit most block.old block.new wrong) }
+fn repair(block: &mut [u8], given: &[u8; 16], shape: Shape, most: usize) -> Option<usize>
+    requires long { length block.old ≡ 2 * shape.limit + shape.size }
+    requires within { most ≤ shape.limit }
+    requires syndromes { (j : ℕ) → j < 2 * shape.limit → slice_index given.now j ≡ syndrome (2 * shape.limit) (2 * shape.limit + shape.size) (word block.old) j }
+    ensures { MatchOption result (Refused shape.size shape.limit most block.old block.new)
+        (λ wrong. Corrected shape.size shape.limit most block.old block.new wrong) }
 {
-    let n = block.len();
-    let coefficients = locator(given, limit);
-    let marks = marks_of(&coefficients, limit, n);
-    let errors = errors_of(given, &marks, limit, n);
-    let wrong = nonzero(&errors, n);
-    if wrong <= most && explain(&errors, given, n, 2 * limit) {
-        add_errors(block, &errors);
+    let coefficients = locator(given, shape);
+    let mut marks = [0; 255];
+    let marks = &mut marks[..block.len()];
+    mark(marks, &coefficients, shape);
+    let mut errors = [0; 255];
+    let errors = &mut errors[..block.len()];
+    let findings = Findings {
+        syndromes: *given,
+        marks,
+        shape,
+    };
+    findings.find(errors);
+    let wrong = nonzero(errors);
+    if wrong <= most && explain(errors, given, shape) {
+        add_errors(block, errors);
         Some(wrong)
     } else {
         None
     }
 }
 
-// Makes of a block of 2 * `limit` parity bytes and `size` message bytes the outer word that differs from it in at most `most`
-// bytes, and says in how many. `None`, and the block as it was, if there is no such word.
-pub fn correct(block: &mut [u8], size: usize, limit: usize, most: usize) -> Option<usize>
-    requires few { limit ≤ 8 }
-    requires short { size ≤ 239 }
-    requires long { length block.old ≡ 2 * limit + size }
-    requires within { most ≤ limit }
-    ensures { MatchOption result (Refused size limit most block.old block.new)
-        (λ wrong. Corrected size limit most block.old block.new wrong) }
+// Makes of a block the outer word that differs from it in at most `most` bytes, and says in how many. `None`, and the block as
+// it was, if there is no such word.
+pub fn correct(block: &mut [u8], shape: Shape, most: usize) -> Option<usize>
+    requires long { length block.old ≡ 2 * shape.limit + shape.size }
+    requires within { most ≤ shape.limit }
+    ensures { MatchOption result (Refused shape.size shape.limit most block.old block.new)
+        (λ wrong. Corrected shape.size shape.limit most block.old block.new wrong) }
 {
-    let given = syndromes(block, block.len(), 2 * limit);
-    if all_zero(&given, 2 * limit) {
+    let given = syndromes(block, shape);
+    if all_zero(&given[..shape.parity()]) {
         return Some(0);
     }
-    repair(block, &given, size, limit, most)
+    repair(block, &given, shape, most)
 }
 
 // `correct` on the block that stands in a row of bytes from `at` on. The other bytes stay as they are.
-pub fn correct_at(
-    bytes: &mut [u8],
-    at: usize,
-    size: usize,
-    limit: usize,
-    most: usize,
-) -> Option<usize>
-    requires few { limit ≤ 8 }
-    requires short { size ≤ 239 }
-    requires there { at + (2 * limit + size) ≤ length bytes.old }
-    requires within { most ≤ limit }
-    ensures answer { MatchOption result (Refused size limit most (part (2 * limit + size) at (word bytes.old)) (part (2 * limit + size) at (word bytes.new)))
-        (λ wrong. Corrected size limit most (part (2 * limit + size) at (word bytes.old)) (part (2 * limit + size) at (word bytes.new)) wrong) }
+pub fn correct_at(bytes: &mut [u8], at: usize, shape: Shape, most: usize) -> Option<usize>
+    requires there { at + (2 * shape.limit + shape.size) ≤ length bytes.old }
+    requires within { most ≤ shape.limit }
+    ensures answer { MatchOption result (Refused shape.size shape.limit most (part (2 * shape.limit + shape.size) at (word bytes.old)) (part (2 * shape.limit + shape.size) at (word bytes.new)))
+        (λ wrong. Corrected shape.size shape.limit most (part (2 * shape.limit + shape.size) at (word bytes.old)) (part (2 * shape.limit + shape.size) at (word bytes.new)) wrong) }
     ensures before { (k : ℕ) → k < at → slice_index bytes.new k ≡ slice_index bytes.old k }
-    ensures behind { (k : ℕ) → at + (2 * limit + size) ≤ k → slice_index bytes.new k ≡ slice_index bytes.old k }
+    ensures behind { (k : ℕ) → at + (2 * shape.limit + shape.size) ≤ k → slice_index bytes.new k ≡ slice_index bytes.old k }
 {
-    correct(&mut bytes[at..at + (2 * limit + size)], size, limit, most)
+    correct(&mut bytes[at..at + shape.block()], shape, most)
 }

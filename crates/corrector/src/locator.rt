@@ -1,138 +1,160 @@
-ghost use Rattle.std.specs.Prelude.{◌≡◌, ℕ, suc, ◌+◌, ◌-◌, ◌*◌, ◌<◌, ◌≤◌, ◌≢◌, slice_index, slice_index_or};
+ghost use Rattle.std.specs.Prelude.{◌≡◌, ℕ, suc, ◌+◌, ◌-◌, ◌*◌, ◌<◌, ◌≤◌, ◌≢◌, ◌==◌, List, true, length, slice_index, slice_index_or};
 ghost use Rattle.field.specs.Field.{◌⊕◌, ◌⊗◌};
-ghost use Rattle.outer_theory.proofs.Rows.{Reduced, Shape, Swept, applied, at};
-ghost use Rattle.outer_theory.specs.Sums.{count, sum};
+ghost use Rattle.outer_theory.proofs.Rows.{Reduced, Swept, applied, at, left_in};
+ghost use Rattle.outer_theory.specs.Sums.{sum};
+ghost use Rattle.words.specs.Words.{digit, flags};
 
-use crate::syndromes::place;
 use field::{inverse, mul};
+use standard::shape::Shape;
+use std::array;
 
-// Nine rows of nine coefficients: row r has 1 at place r, and 0 elsewhere.
-const UNIT_ROWS: [u8; 81] = [
-    1, 0, 0, 0, 0, 0, 0, 0, 0, 0, 1, 0, 0, 0, 0, 0, 0, 0, 0, 0, 1, 0, 0, 0, 0, 0, 0, 0, 0, 0, 1, 0,
-    0, 0, 0, 0, 0, 0, 0, 0, 1, 0, 0, 0, 0, 0, 0, 0, 0, 0, 1, 0, 0, 0, 0, 0, 0, 0, 0, 0, 1, 0, 0, 0,
-    0, 0, 0, 0, 0, 0, 1, 0, 0, 0, 0, 0, 0, 0, 0, 0, 1,
-];
-
-fn unit_rows() -> [u8; 81]
-    ensures { (limit : ℕ) → limit ≤ 8 → Shape limit result }
-{
-    UNIT_ROWS
-}
-
-// Row `r` applied to the syndromes from `j` on.
-fn apply(rows: &[u8; 81], r: usize, syndromes: &[u8; 16], j: usize, limit: usize) -> u8
-    requires few { limit ≤ 8 }
-    requires row { r ≤ limit }
-    requires within { j < limit }
-    ensures { result ≡ applied limit rows.now r syndromes.now j }
+// The sum of the products of a row's coefficients and the first syndromes.
+fn combine(row: &[u8; 9], syndromes: &[u8], shape: Shape) -> u8
+    requires { shape.limit < length syndromes.now }
+    ensures { result ≡ sum (suc shape.limit) (λ l. slice_index_or row.now l 0 ⊗ slice_index_or syndromes.now l 0) }
 {
     let mut sum = 0;
-    for l in 0..limit + 1 {
-        sum ^= mul(rows[r * 9 + l], syndromes[j + l]);
+    for (l, coefficient) in row[..shape.limit + 1].iter().enumerate() {
+        sum ^= mul(*coefficient, syndromes[l]);
     }
     sum
 }
 
-// Adds `factor` times row `p` to row `r`.
-fn add_row(rows: &mut [u8; 81], r: usize, p: usize, factor: u8, limit: usize)
-    requires few { limit ≤ 8 }
-    requires earlier { p < r }
-    requires row { r ≤ limit }
-    ensures other { (i l : ℕ) → l < 9 → (i ≢ r) → at rows.new i l ≡ at rows.old i l }
-    ensures changed { (l : ℕ) → l ≤ limit → at rows.new r l ≡ at rows.old r l ⊕ (factor ⊗ at rows.old p l) }
+// Adds `factor` times a row to another.
+fn add_multiple(row: &mut [u8; 9], other: &[u8; 9], factor: u8)
+    ensures { (l : ℕ) → l < 9 → slice_index row.new l ≡ slice_index_or row.old l 0 ⊕ (factor ⊗ slice_index_or other.now l 0) }
 {
-    for l in 0..limit + 1 {
-        rows[r * 9 + l] ^= mul(factor, rows[p * 9 + l]);
+    for (l, coefficient) in row.iter_mut().enumerate() {
+        *coefficient ^= mul(factor, other[l]);
     }
 }
 
-// Makes row `r` vanish on the syndromes from `j` on, by means of row `p`, which does not.
-fn clear(rows: &mut [u8; 81], r: usize, p: usize, syndromes: &[u8; 16], j: usize, limit: usize)
-    requires few { limit ≤ 8 }
-    requires earlier { p < r }
-    requires row { r ≤ limit }
-    requires within { j < limit }
-    requires pivot { applied limit rows.old p syndromes.now j ≢ 0 }
-    ensures other { (i l : ℕ) → l < 9 → (i ≢ r) → at rows.new i l ≡ at rows.old i l }
-    ensures changed { (c : ℕ) × ((l : ℕ) → l ≤ limit → at rows.new r l ≡ at rows.old r l ⊕ (c ⊗ at rows.old p l)) }
-    ensures gone { applied limit rows.new r syndromes.now j ≡ 0 }
+// 1 at place `r`, and 0 elsewhere.
+fn unit_row(r: usize) -> [u8; 9]
+    ensures { (l : ℕ) → l < 9 → slice_index result l ≡ digit (l == r) }
 {
-    let divisor = apply(rows, p, syndromes, j, limit);
-    let factor = mul(apply(rows, r, syndromes, j, limit), inverse(divisor));
-    add_row(rows, r, p, factor, limit);
+    array::from_fn(|l| u8::from(l == r))
 }
 
-// Makes every row that is left vanish on the syndromes from `j` on but one, the pivot. Returns it, or `limit` + 1.
-fn sweep(rows: &mut [u8; 81], left: &[u8; 9], syndromes: &[u8; 16], j: usize, limit: usize) -> usize
-    requires few { limit ≤ 8 }
-    requires within { j < limit }
-    requires reduced { Reduced limit rows.old left.now syndromes.now j }
-    ensures { Swept limit rows.new left.now syndromes.now j (limit + 1) result }
+// Row r has 1 at place r, and 0 elsewhere.
+fn unit_rows() -> [[u8; 9]; 9]
+    ensures { (r l : ℕ) → r < 9 → l < 9 → at result r l ≡ digit (l == r) }
 {
-    let mut pivot = limit + 1;
-    for r in 0..limit + 1 {
-        if left[r] != 0 && apply(rows, r, syndromes, j, limit) != 0 {
-            if pivot > limit {
-                pivot = r;
-            } else {
-                clear(rows, r, pivot, syndromes, j, limit);
+    array::from_fn(unit_row)
+}
+
+// An equation that a locator's coefficients meet: they combine the T + 1 syndromes from the `first` on to 0.
+#[derive(Drop)]
+struct Equation {
+    syndromes: [u8; 16],
+    first: usize,
+    shape: Shape,
+    ghost within: { first < shape.limit },
+}
+
+// Rows of coefficients, and which of them are left.
+#[derive(Drop)]
+struct Elimination {
+    rows: [[u8; 9]; 9],
+    left: [bool; 9],
+}
+
+impl Elimination {
+    // All rows are left.
+    fn start() -> Elimination
+        ensures { (limit : ℕ) (s : List ℕ) → limit ≤ 8 → Reduced limit result.rows result.left s 0 }
+    {
+        Elimination {
+            rows: unit_rows(),
+            left: [true; 9],
+        }
+    }
+
+    // Row `r` applied to the equation's syndromes.
+    fn apply(&self, r: usize, equation: &Equation) -> u8
+        requires { r ≤ equation.now.shape.limit }
+        ensures { result ≡ applied equation.now.shape.limit self.now.rows r equation.now.syndromes equation.now.first }
+    {
+        combine(
+            &self.rows[r],
+            &equation.syndromes[equation.first..],
+            equation.shape,
+        )
+    }
+
+    // Makes row `r` vanish on the equation's syndromes, by means of row `p`, which does not.
+    fn clear(&mut self, r: usize, p: usize, equation: &Equation)
+        requires earlier { p < r }
+        requires row { r ≤ equation.now.shape.limit }
+        requires pivot { applied equation.now.shape.limit self.old.rows p equation.now.syndromes equation.now.first ≢ 0 }
+        ensures left { self.new.left ≡ self.old.left }
+        ensures other { (i l : ℕ) → (i ≢ r) → at self.new.rows i l ≡ at self.old.rows i l }
+        ensures changed { (c : ℕ) × ((l : ℕ) → l ≤ equation.now.shape.limit → at self.new.rows r l ≡ at self.old.rows r l ⊕ (c ⊗ at self.old.rows p l)) }
+        ensures gone { applied equation.now.shape.limit self.new.rows r equation.now.syndromes equation.now.first ≡ 0 }
+    {
+        let divisor = self.apply(p, equation);
+        let factor = mul(self.apply(r, equation), inverse(divisor));
+        let pivot = self.rows[p];
+        add_multiple(&mut self.rows[r], &pivot, factor);
+    }
+
+    // Makes every row that is left vanish on the equation's syndromes but one, the pivot. `None` if all of them do.
+    fn sweep(&mut self, equation: &Equation) -> Option<usize>
+        requires { Reduced equation.now.shape.limit self.old.rows self.old.left equation.now.syndromes equation.now.first }
+        ensures left { self.new.left ≡ self.old.left }
+        ensures swept { Swept equation.now.shape.limit self.new.rows self.new.left equation.now.syndromes equation.now.first (equation.now.shape.limit + 1) result }
+    {
+        let mut pivot = None;
+        for r in 0..equation.shape.limit + 1 {
+            if self.left[r] && self.apply(r, equation) != 0 {
+                match pivot {
+                    None => pivot = Some(r),
+                    Some(p) => self.clear(r, p, equation),
+                }
             }
         }
+        pivot
     }
-    pivot
-}
 
-// One equation more that the rows that are left meet, and at most one row less.
-fn eliminate(rows: &mut [u8; 81], left: &mut [u8; 9], syndromes: &[u8; 16], j: usize, limit: usize)
-    requires few { limit ≤ 8 }
-    requires within { j < limit }
-    requires reduced { Reduced limit rows.old left.old syndromes.now j }
-    ensures { Reduced limit rows.new left.new syndromes.now (j + 1) }
-{
-    let pivot = sweep(rows, left, syndromes, j, limit);
-    if pivot <= limit {
-        left[pivot] = 0;
-    }
-}
-
-// A row that is left.
-fn first_left(left: &[u8; 9], limit: usize) -> usize
-    requires few { limit ≤ 8 }
-    requires some { 0 < count (suc limit) (λ r. slice_index left.now r) }
-    ensures row { result ≤ limit }
-    ensures left { slice_index left.now result ≢ 0 }
-{
-    for r in 0..limit + 1 {
-        if left[r] != 0 {
-            return r;
+    // One equation more that the rows that are left meet, and at most one row less.
+    fn eliminate(&mut self, equation: &Equation)
+        requires { Reduced equation.now.shape.limit self.old.rows self.old.left equation.now.syndromes equation.now.first }
+        ensures { Reduced equation.now.shape.limit self.new.rows self.new.left equation.now.syndromes (equation.now.first + 1) }
+    {
+        if let Some(pivot) = self.sweep(equation) {
+            self.left[pivot] = false;
         }
     }
-    unreachable()
+
+    // A row that is left.
+    fn first_left(&self, shape: Shape) -> usize
+        requires { 0 < left_in (suc shape.limit) self.now.left }
+        ensures row { result ≤ shape.limit }
+        ensures left { flags self.now.left result ≡ true }
+    {
+        for (r, left) in self.left.iter().enumerate() {
+            if *left {
+                return r;
+            }
+        }
+        unreachable()
+    }
 }
 
-fn row_of(rows: &[u8; 81], r: usize) -> [u8; 9]
-    requires { r ≤ 8 }
-    ensures { (l : ℕ) → l < 9 → slice_index result l ≡ at rows.now r l }
+// The coefficients of a locator, lowest power first: one is 1, and they combine the T + 1 syndromes from each of the first
+// T on to 0. There are more coefficients than equations, so elimination always leaves a row.
+pub(crate) fn locator(syndromes: &[u8; 16], shape: Shape) -> [u8; 9]
+    ensures one { (l : ℕ) × (l ≤ shape.limit) × (slice_index result l ≡ 1) }
+    ensures vanish { (j : ℕ) → j < shape.limit → sum (suc shape.limit) (λ l. slice_index_or result l 0 ⊗ slice_index_or syndromes.now (j + l) 0) ≡ 0 }
 {
-    let mut row = [0; 9];
-    for l in 0..9usize {
-        row[l] = rows[r * 9 + l];
+    let mut elimination = Elimination::start();
+    for j in 0..shape.limit {
+        elimination.eliminate(&Equation {
+            syndromes: *syndromes,
+            first: j,
+            shape,
+        });
     }
-    row
-}
-
-// The coefficients of a locator, lowest power first: one is 1, and they combine the `limit` + 1 syndromes from each of the first
-// `limit` on to 0. There are more coefficients than equations, so elimination always leaves a row.
-pub(crate) fn locator(syndromes: &[u8; 16], limit: usize) -> [u8; 9]
-    requires { limit ≤ 8 }
-    ensures one { (l : ℕ) × (l ≤ limit) × (slice_index result l ≡ 1) }
-    ensures vanish { (j : ℕ) → j < limit → sum (suc limit) (λ l. slice_index_or result l 0 ⊗ slice_index_or syndromes.now (j + l) 0) ≡ 0 }
-{
-    let mut rows = unit_rows();
-    let mut left = [1; 9];
-    for j in 0..limit {
-        eliminate(&mut rows, &mut left, syndromes, j, limit);
-    }
-    let r = first_left(&left, limit);
-    row_of(&rows, r)
+    let r = elimination.first_left(shape);
+    elimination.rows[r]
 }

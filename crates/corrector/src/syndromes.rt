@@ -1,11 +1,11 @@
-ghost use Rattle.std.specs.Prelude.{◌≡◌, ℕ, ◌+◌, ◌-◌, ◌<◌, ◌≤◌, length, slice_index, slice_index_or};
+ghost use Rattle.std.specs.Prelude.{◌≡◌, ℕ, ◌+◌, ◌-◌, ◌*◌, ◌<◌, length, slice_index, slice_index_or};
 ghost use Rattle.field.specs.Field.{◌⊕◌, ◌⊗◌, gexp, gpow};
-ghost use Rattle.outer_theory.proofs.Order.{order};
 ghost use Rattle.outer_theory.proofs.Products.{product};
 ghost use Rattle.outer_theory.specs.Syndromes.{V, X, place as placed, syndrome, weight};
 ghost use Rattle.words.specs.Words.{word};
 
 use field::{log, power};
+use standard::shape::Shape;
 
 // The logarithms of the products (02^1 + 1)(02^2 + 1) .. (02^n + 1), by n.
 const PRODUCT_LOGS: [u8; 255] = [
@@ -30,32 +30,16 @@ const TRIANGLES: [u8; 17] = [
 ];
 
 // The power of x whose coefficient byte `k` of a block is, counted from the lowest that is sent.
-pub(crate) fn place(parity: usize, n: usize, k: usize) -> usize
-    requires some { parity ≤ n }
-    requires within { k < n }
-    requires short { n ≤ 255 }
-    ensures is { result ≡ placed parity n k }
-    ensures low { result < n }
+pub(crate) fn place(shape: Shape, k: usize) -> usize
+    requires { k < 2 * shape.limit + shape.size }
+    ensures is { result ≡ placed (2 * shape.limit) (2 * shape.limit + shape.size) k }
+    ensures low { result < 2 * shape.limit + shape.size }
 {
+    let parity = shape.parity();
     if k < parity {
         parity - 1 - k
     } else {
-        n + parity - 1 - k
-    }
-}
-
-// The byte that is taken as number `i`: the message's bytes first, the parity last.
-fn taken(parity: usize, n: usize, i: usize) -> usize
-    requires some { parity ≤ n }
-    requires within { i < n }
-    requires short { n ≤ 255 }
-    ensures is { result ≡ order parity n i }
-    ensures low { result < n }
-{
-    if i < n - parity {
-        parity + i
-    } else {
-        i - (n - parity)
+        shape.block() + parity - 1 - k
     }
 }
 
@@ -67,28 +51,29 @@ fn product_log(n: usize) -> u8
     PRODUCT_LOGS[n]
 }
 
-// The logarithm of the weight at a place, `e` bytes of the parity being not sent: that of
+// The logarithm of the weight at a place, e bytes of the parity being not sent: that of
 // 02^(0 + 1 + .. + (e - 1)) times (02^(place + 1) + 1) .. (02^(place + e) + 1), so that two products give it.
-pub(crate) fn weight_log(e: usize, place: usize) -> usize
-    requires few { e ≤ 16 }
-    requires within { place + e < 255 }
-    ensures is { gexp result ≡ weight e (place + e) }
+pub(crate) fn weight_log(shape: Shape, place: usize) -> usize
+    requires { place < 2 * shape.limit + shape.size }
+    ensures is { gexp result ≡ weight (16 - 2 * shape.limit) (place + (16 - 2 * shape.limit)) }
     ensures low { result < 255 }
 {
-    (TRIANGLES[e] as usize + product_log(place + e) as usize + 255 - product_log(place) as usize)
-        % 255
+    let e = 16 - shape.parity();
+    let shift = usize::from(TRIANGLES[e]);
+    let above = usize::from(product_log(place + e));
+    let below = usize::from(product_log(place));
+    (shift + above + 255 - below) % 255
 }
 
-// Adds 02^`start` times the power i of 02^`step` to each value i of the first `count`.
-pub(crate) fn add_powers(values: &mut [u8], count: usize, start: usize, step: usize)
-    requires room { count ≤ length values.old }
+// Adds 02^`start` times the power i of 02^`step` to each value i.
+pub(crate) fn add_powers(values: &mut [u8], start: usize, step: usize)
     requires low { start < 255 }
     requires short { step < 255 }
-    ensures { (i : ℕ) → i < count → slice_index values.new i ≡ slice_index_or values.old i 0 ⊕ (gexp start ⊗ gpow (gexp step) i) }
+    ensures { (i : ℕ) → i < length values.old → slice_index values.new i ≡ slice_index_or values.old i 0 ⊕ (gexp start ⊗ gpow (gexp step) i) }
 {
     let mut exponent = start;
-    for i in 0..count {
-        values[i] ^= power(exponent);
+    for value in values.iter_mut() {
+        *value ^= power(exponent);
         exponent += step;
         if exponent >= 255 {
             exponent -= 255;
@@ -97,36 +82,37 @@ pub(crate) fn add_powers(values: &mut [u8], count: usize, start: usize, step: us
 }
 
 // Adds what the byte `k` of a block gives to its syndromes.
-fn add_byte(syndromes: &mut [u8; 16], byte: u8, parity: usize, n: usize, k: usize)
-    requires some { parity ≤ n }
-    requires few { parity ≤ 16 }
-    requires short { n + (16 - parity) ≤ 255 }
-    requires within { k < n }
-    ensures { (j : ℕ) → j < parity → slice_index syndromes.new j ≡ slice_index_or syndromes.old j 0 ⊕ ((byte ⊗ V parity n k) ⊗ gpow (X parity n k) j) }
+fn add_byte(syndromes: &mut [u8], byte: u8, shape: Shape, k: usize)
+    requires { k < 2 * shape.limit + shape.size }
+    ensures { (j : ℕ) → j < length syndromes.old → slice_index syndromes.new j ≡ slice_index_or syndromes.old j 0 ⊕ ((byte ⊗ V (2 * shape.limit) (2 * shape.limit + shape.size) k) ⊗ gpow (X (2 * shape.limit) (2 * shape.limit + shape.size) k) j) }
 {
     if byte != 0 {
-        let m = place(parity, n, k);
+        let m = place(shape, k);
         add_powers(
             syndromes,
-            parity,
-            (log(byte) as usize + weight_log(16 - parity, m)) % 255,
+            (usize::from(log(byte)) + weight_log(shape, m)) % 255,
             m,
         );
     }
 }
 
-// The weighted syndromes of the first `n` bytes, as a block of which the first `parity` bytes are parity.
-pub(crate) fn syndromes(block: &[u8], n: usize, parity: usize) -> [u8; 16]
-    requires there { n ≤ length block.now }
-    requires some { parity ≤ n }
-    requires few { parity ≤ 16 }
-    requires short { n + (16 - parity) ≤ 255 }
-    ensures { (j : ℕ) → j < parity → slice_index result j ≡ syndrome parity n (word block.now) j }
+// Adds the weighted syndromes of a block.
+fn add_bytes(syndromes: &mut [u8], block: &[u8], shape: Shape)
+    requires { length block.now ≡ 2 * shape.limit + shape.size }
+    ensures { (j : ℕ) → j < length syndromes.old → slice_index syndromes.new j ≡ slice_index_or syndromes.old j 0 ⊕ syndrome (2 * shape.limit) (2 * shape.limit + shape.size) (word block.now) j }
 {
-    let mut sums = [0; 16];
-    for i in 0..n {
-        let k = taken(parity, n, i);
-        add_byte(&mut sums, block[k], parity, n, k);
+    for (k, byte) in block.iter().enumerate() {
+        add_byte(syndromes, *byte, shape, k);
     }
+}
+
+// The weighted syndromes of a block: the first 2T of sixteen bytes, a fixed array since nothing is allocated.
+pub(crate) fn syndromes(block: &[u8], shape: Shape) -> [u8; 16]
+    requires { length block.now ≡ 2 * shape.limit + shape.size }
+    ensures { (j : ℕ) → j < 2 * shape.limit → slice_index result j ≡ syndrome (2 * shape.limit) (2 * shape.limit + shape.size) (word block.now) j }
+{
+    let parity = shape.parity();
+    let mut sums = [0; 16];
+    add_bytes(&mut sums[..parity], block, shape);
     sums
 }

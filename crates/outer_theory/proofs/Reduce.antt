@@ -1,25 +1,25 @@
 -- The rows that make syndromes vanish, step by step.
 -- Assumes nothing.
-use Rattle.std.proofs.Common.{◌≡◌, ℕ, zero, suc, ◌+◌, ◌<◌, ◌≤◌, Bool, cond, T, eqb, ◌≢◌, List, [], ◌∷◌, length, get_or, set, sym, refl, ap, ◌∙◌, subst, ap₂, le_of_suc-le-suc, arith, eqb→eq, get_or-set_other, get_or-set_same, eq-eqb, ne_eqb}
+use Rattle.std.proofs.Common.{◌≡◌, ℕ, zero, suc, ◌+◌, ◌<◌, ◌≤◌, Bool, true, false, ◌≢◌, List, length, get_or, set, Option, None, Some, sym, refl, ap, ◌∙◌, subst, ap₂, le_of_suc-le-suc, arith, get_or-set_other, get_or-set_same}
 use native.Mathlib.Decide.{ℕ_discrete}
 use Rattle.field.specs.Field.{◌⊕◌, ◌⊗◌}
 use Rattle.field.proofs.Field.{add_zero, add_mul, mul_assoc, mul_zero, mul_one, mul_lt}
-use Rattle.field.proofs.Tests.{all, all_at}
 use Rattle.outer_theory.specs.Sums.{sum, count, one_if}
-use Rattle.outer_theory.proofs.Rows.{at, applied, Shape, Reduced, Swept}
+use Rattle.words.specs.Words.{digit, flags}
+use Rattle.outer_theory.proofs.Rows.{at, applied, left_in, Triangular, Reduced, Swept}
 use Rattle.field.proofs.Powers.{zero_if_same}
 use Rattle.outer_theory.proofs.Sums.{sum_same, sum_add, sum_mul, sum_lt, count_le, count_all}
 
-applied_lt : (limit : ℕ) (rows : List ℕ) (r : ℕ) (s : List ℕ) (j : ℕ) → applied limit rows r s j < 256
+applied_lt : (limit : ℕ) (rows : List (List ℕ)) (r : ℕ) (s : List ℕ) (j : ℕ) → applied limit rows r s j < 256
 unfolding applied
 applied_lt limit rows r s j = sum_lt (suc limit) (λ l. at rows r l ⊗ get_or s (j + l) 0) (λ l h. mul_lt (at rows r l) (get_or s (j + l) 0))
 
-applied_same : (limit : ℕ) (rows new : List ℕ) (r : ℕ) → ((l : ℕ) → l ≤ limit → at new r l ≡ at rows r l) → (s : List ℕ) (j : ℕ) → applied limit new r s j ≡ applied limit rows r s j
+applied_same : (limit : ℕ) (rows new : List (List ℕ)) (r : ℕ) → ((l : ℕ) → l ≤ limit → at new r l ≡ at rows r l) → (s : List ℕ) (j : ℕ) → applied limit new r s j ≡ applied limit rows r s j
 unfolding applied
 applied_same limit rows new r h s j =
     sum_same (suc limit) (λ l. at new r l ⊗ get_or s (j + l) 0) (λ l. at rows r l ⊗ get_or s (j + l) 0) (λ l m. ap (λ (y : ℕ). y ⊗ get_or s (j + l) 0) (h l (le_of_suc-le-suc m)))
 
-applied_add : (limit : ℕ) (rows new : List ℕ) (r p c : ℕ) → ((l : ℕ) → l ≤ limit → at new r l ≡ at rows r l ⊕ (c ⊗ at rows p l)) → (s : List ℕ) (j : ℕ)
+applied_add : (limit : ℕ) (rows new : List (List ℕ)) (r p c : ℕ) → ((l : ℕ) → l ≤ limit → at new r l ≡ at rows r l ⊕ (c ⊗ at rows p l)) → (s : List ℕ) (j : ℕ)
     → applied limit new r s j ≡ applied limit rows r s j ⊕ (c ⊗ applied limit rows p s j)
 unfolding applied
 applied_add limit rows new r p c h s j =
@@ -30,7 +30,7 @@ applied_add limit rows new r p c h s j =
     ∙ ap (λ (y : ℕ). sum (suc limit) (λ l. at rows r l ⊗ get_or s (j + l) 0) ⊕ y) (sum_mul (suc limit) c (λ l. at rows p l ⊗ get_or s (j + l) 0))
 
 -- c is a / d
-pub cleared : (limit : ℕ) (rows new : List ℕ) (r p c i : ℕ) (s : List ℕ) (j : ℕ) → ((l : ℕ) → l ≤ limit → at new r l ≡ at rows r l ⊕ (c ⊗ at rows p l))
+pub cleared : (limit : ℕ) (rows new : List (List ℕ)) (r p c i : ℕ) (s : List ℕ) (j : ℕ) → ((l : ℕ) → l ≤ limit → at new r l ≡ at rows r l ⊕ (c ⊗ at rows p l))
     → c ≡ applied limit rows r s j ⊗ i → i ⊗ applied limit rows p s j ≡ 1 → applied limit new r s j ≡ 0
 cleared limit rows new r p c i s j h e q =
     applied_add limit rows new r p c h s j
@@ -39,8 +39,8 @@ cleared limit rows new r p c i s j h e q =
     ∙ ap (λ (y : ℕ). applied limit rows r s j ⊗ y) q ∙ mul_one (applied limit rows r s j) (applied_lt limit rows r s j)))
 
 -- the shape stays when an earlier row is added
-shape_added : (limit : ℕ) (rows new : List ℕ) (r p c : ℕ) → limit ≤ 8 → p < r → r ≤ limit → Shape limit rows → ((i l : ℕ) → l < 9 → (i ≡ r → ⊥) → at new i l ≡ at rows i l)
-    → ((l : ℕ) → l ≤ limit → at new r l ≡ at rows r l ⊕ (c ⊗ at rows p l)) → Shape limit new
+shape_added : (limit : ℕ) (rows new : List (List ℕ)) (r p c : ℕ) → limit ≤ 8 → p < r → r ≤ limit → Triangular limit rows → ((i l : ℕ) → l < 9 → (i ≡ r → ⊥) → at new i l ≡ at rows i l)
+    → ((l : ℕ) → l ≤ limit → at new r l ≡ at rows r l ⊕ (c ⊗ at rows p l)) → Triangular limit new
 shape_added limit rows new r p c hl hp hr sh other changed =
     record {
       diagonal = λ i h. diagonal i h (ℕ_discrete i r);
@@ -60,52 +60,62 @@ shape_added limit rows new r p c hl hp hr sh other changed =
         (changed l b ∙ ap₂ ◌⊕◌ (sh.behind r l (omega arith) b) (ap (λ (y : ℕ). c ⊗ y) (sh.behind p l (omega arith) b) ∙ mul_zero c) ∙ add_zero 0)
 
 -- row r vanishes already, or is not left
-pub swept_pass : (limit : ℕ) (rows left s : List ℕ) (j r p : ℕ) → Swept limit rows left s j r p → ((get_or left r 0 ≡ 0 → ⊥) → applied limit rows r s j ≡ 0) → Swept limit rows left s j (r + 1) p
+pub swept_pass : (limit : ℕ) (rows : List (List ℕ)) (left : List Bool) (s : List ℕ) (j r : ℕ) (p : Option ℕ) → Swept limit rows left s j r p → (flags left r ≡ true → applied limit rows r s j ≡ 0) → Swept limit rows left s j (r + 1) p
 swept_pass limit rows left s j r p w h =
     record {
       shape = w.shape;
       kernel = w.kernel;
       before = λ i l n q. step i n q (ℕ_discrete i r) l;
-      found = λ a. let f = w.found a in (omega arith, f.1, f.2);
+      found = λ k e. let f = w.found k e in (omega arith, f.1, f.2);
     }
   where
-    step : (i : ℕ) → (get_or left i 0 ≡ 0 → ⊥) → (i ≡ p → ⊥) → Dec (i ≡ r) → i < r + 1 → applied limit rows i s j ≡ 0
-    step i n q (yes e) l = subst (λ (m : ℕ). (get_or left m 0 ≡ 0 → ⊥) → applied limit rows m s j ≡ 0) (sym e) h n
+    step : (i : ℕ) → flags left i ≡ true → (p ≡ Some i → ⊥) → Dec (i ≡ r) → i < r + 1 → applied limit rows i s j ≡ 0
+    step i n q (yes e) l = subst (λ (m : ℕ). flags left m ≡ true → applied limit rows m s j ≡ 0) (sym e) h n
     step i n q (no ne) l = w.before i (omega arith) n q
 
 -- row r is the first that does not vanish
-pub swept_pivot : (limit : ℕ) (rows left s : List ℕ) (j r p : ℕ) → Swept limit rows left s j r p → limit < p → r ≤ limit → (get_or left r 0 ≡ 0 → ⊥) → (applied limit rows r s j ≡ 0 → ⊥) → Swept limit rows left s j (r + 1) r
-swept_pivot limit rows left s j r p w hp hr n a =
+pub swept_pivot : (limit : ℕ) (rows : List (List ℕ)) (left : List Bool) (s : List ℕ) (j r : ℕ) → Swept limit rows left s j r None → flags left r ≡ true → (applied limit rows r s j ≡ 0 → ⊥) → Swept limit rows left s j (r + 1) (Some r)
+swept_pivot limit rows left s j r w n a =
     record {
       shape = w.shape;
       kernel = w.kernel;
-      before = λ i l m q. w.before i (omega arith) m (λ e. omega arith);
-      found = λ h. (omega arith, a, n);
-    }
-
--- row r was cleared by the pivot
-pub swept_clear : (limit : ℕ) (rows new left s : List ℕ) (j r p : ℕ) → limit ≤ 8 → r ≤ limit → p ≤ limit → Swept limit rows left s j r p → (get_or left r 0 ≡ 0 → ⊥)
-    → ((i l : ℕ) → l < 9 → (i ≡ r → ⊥) → at new i l ≡ at rows i l)
-    → ((c : ℕ) × ((l : ℕ) → l ≤ limit → at new r l ≡ at rows r l ⊕ (c ⊗ at rows p l))) → applied limit new r s j ≡ 0 → Swept limit new left s j (r + 1) p
-swept_clear limit rows new left s j r p hl hr hp w nr other changed gone =
-    record {
-      shape = shape_added limit rows new r p changed.0 hl (w.found hp).0 hr w.shape other changed.1;
-      kernel = λ i h n k l. kernel i h n k l (ℕ_discrete i r);
-      before = λ i l n q. before i l n q (ℕ_discrete i r);
-      found = λ h. (let f : p < r = (w.found hp).0 in omega arith, λ z. (w.found hp).1 (sym (same p (λ e. let f : p < r = (w.found hp).0 in omega arith) j) ∙ z), (w.found hp).2);
+      before = λ i l m q. step i m q (ℕ_discrete i r) l;
+      found = λ k e. found k (cc);
     }
   where
+    step : (i : ℕ) → flags left i ≡ true → (Some r ≡ Some i → ⊥) → Dec (i ≡ r) → i < r + 1 → applied limit rows i s j ≡ 0
+    step i m q (yes e) l = absurd (q (ap Some (sym e)))
+    step i m q (no ne) l = w.before i (omega arith) m (λ z. cc)
+
+    found : (k : ℕ) → r ≡ k → (k < r + 1) × (applied limit rows k s j ≡ 0 → ⊥) × (flags left k ≡ true)
+    found k e = subst (λ (m : ℕ). (m < r + 1) × (applied limit rows m s j ≡ 0 → ⊥) × (flags left m ≡ true)) e (omega arith, a, n)
+
+-- row r was cleared by the pivot
+pub swept_clear : (limit : ℕ) (rows new : List (List ℕ)) (left : List Bool) (s : List ℕ) (j r p : ℕ) → limit ≤ 8 → r ≤ limit → Swept limit rows left s j r (Some p) → flags left r ≡ true
+    → ((i l : ℕ) → l < 9 → (i ≡ r → ⊥) → at new i l ≡ at rows i l)
+    → ((c : ℕ) × ((l : ℕ) → l ≤ limit → at new r l ≡ at rows r l ⊕ (c ⊗ at rows p l))) → applied limit new r s j ≡ 0 → Swept limit new left s j (r + 1) (Some p)
+swept_clear limit rows new left s j r p hl hr w nr other changed gone =
+    record {
+      shape = shape_added limit rows new r p changed.0 hl earlier hr w.shape other changed.1;
+      kernel = λ i h n k l. kernel i h n k l (ℕ_discrete i r);
+      before = λ i l n q. before i l n q (ℕ_discrete i r);
+      found = λ k e. (let f = w.found k e in (omega arith, λ z. f.1 (sym (same k (λ q. omega arith) j) ∙ z), f.2));
+    }
+  where
+    earlier : p < r
+    earlier = (w.found p refl).0
+
     same : (i : ℕ) → (i ≡ r → ⊥) → (k : ℕ) → applied limit new i s k ≡ applied limit rows i s k
     same i n k = applied_same limit rows new i (λ l h. other i l (omega arith) n) s k
 
-    kernel : (i : ℕ) → i ≤ limit → (get_or left i 0 ≡ 0 → ⊥) → (k : ℕ) → k < j → Dec (i ≡ r) → applied limit new i s k ≡ 0
+    kernel : (i : ℕ) → i ≤ limit → flags left i ≡ true → (k : ℕ) → k < j → Dec (i ≡ r) → applied limit new i s k ≡ 0
     kernel i h n k l (no ne) = same i ne k ∙ w.kernel i h n k l
     kernel i h n k l (yes e) =
         subst (λ (m : ℕ). applied limit new m s k ≡ 0) (sym e)
         (applied_add limit rows new r p changed.0 changed.1 s k
-        ∙ ap₂ ◌⊕◌ (w.kernel r hr nr k l) (ap (λ (y : ℕ). changed.0 ⊗ y) (w.kernel p hp (w.found hp).2 k l) ∙ mul_zero changed.0) ∙ add_zero 0)
+        ∙ ap₂ ◌⊕◌ (w.kernel r hr nr k l) (ap (λ (y : ℕ). changed.0 ⊗ y) (w.kernel p (omega (arith, earlier)) (w.found p refl).2 k l) ∙ mul_zero changed.0) ∙ add_zero 0)
 
-    before : (i : ℕ) → i < r + 1 → (get_or left i 0 ≡ 0 → ⊥) → (i ≡ p → ⊥) → Dec (i ≡ r) → applied limit new i s j ≡ 0
+    before : (i : ℕ) → i < r + 1 → flags left i ≡ true → (Some p ≡ Some i → ⊥) → Dec (i ≡ r) → applied limit new i s j ≡ 0
     before i l n q (no ne) = same i ne j ∙ w.before i (omega arith) n q
     before i l n q (yes e) = subst (λ (m : ℕ). applied limit new m s j ≡ 0) (sym e) gone
 
@@ -123,54 +133,39 @@ count_off (suc n) p f g h =
     most zero = omega arith
     most (suc a) = omega arith
 
-count_set : (n p : ℕ) (xs : List ℕ) → count n (λ k. get_or xs k 0) ≤ count n (λ k. get_or (set xs p 0) k 0) + 1
-count_set n p xs = count_off n p (λ k. get_or xs k 0) (λ k. get_or (set xs p 0) k 0) (λ k ne. sym (get_or-set_other xs p k 0 0 ne))
+left_set : (n p : ℕ) (left : List Bool) → left_in n left ≤ left_in n (set left p false) + 1
+left_set n p left =
+    count_off n p (λ k. digit (flags left k)) (λ k. digit (flags (set left p false) k))
+    (λ k ne. ap digit (sym (get_or-set_other left p k false false ne)))
 
-pub reduced_one : (limit : ℕ) (rows left s : List ℕ) (j p : ℕ) → limit < length left → p ≤ limit → Swept limit rows left s j (limit + 1) p → suc limit ≤ count (suc limit) (λ r. get_or left r 0) + j
-    → Reduced limit rows (set left p 0) s (j + 1)
-reduced_one limit rows left s j p long hp w m =
-    record { shape = w.shape; kernel = λ r h n i l. step r h (ℕ_discrete r p) n i l (ℕ_discrete i j); many = omega (arith, count_set (suc limit) p left) }
+pub reduced_one : (limit : ℕ) (rows : List (List ℕ)) (left : List Bool) (s : List ℕ) (j p : ℕ) → limit < length left → Swept limit rows left s j (limit + 1) (Some p) → suc limit ≤ left_in (suc limit) left + j
+    → Reduced limit rows (set left p false) s (j + 1)
+reduced_one limit rows left s j p long w m =
+    record { shape = w.shape; kernel = λ r h n i l. step r h (ℕ_discrete r p) n i l (ℕ_discrete i j); many = omega (arith, left_set (suc limit) p left) }
   where
-    step : (r : ℕ) → r ≤ limit → Dec (r ≡ p) → (get_or (set left p 0) r 0 ≡ 0 → ⊥) → (i : ℕ) → i < j + 1 → Dec (i ≡ j) → applied limit rows r s i ≡ 0
-    step r h (yes q) n i l d = absurd (n (ap (λ (k : ℕ). get_or (set left p 0) k 0) q ∙ get_or-set_same left p 0 0 (omega arith)))
-    step r h (no q) n i l (yes e) = subst (λ (k : ℕ). applied limit rows r s k ≡ 0) (sym e) (w.before r (omega arith) (λ z. n (get_or-set_other left p r 0 0 q ∙ z)) q)
-    step r h (no q) n i l (no ne) = w.kernel r h (λ z. n (get_or-set_other left p r 0 0 q ∙ z)) i (omega arith)
+    here : flags (set left p false) p ≡ false
+    here = get_or-set_same left p false false (let f : p < limit + 1 = (w.found p refl).0 in omega arith)
 
-pub swept_carried : (limit : ℕ) (rows rows' left s : List ℕ) (j r p p' : ℕ) → rows' ≡ rows → p' ≡ p → Swept limit rows left s j r p → Swept limit rows' left s j r p'
-swept_carried limit rows rows' left s j r p p' a b w = subst (λ (x : List ℕ). Swept limit x left s j r p') (sym a) (subst (λ (x : ℕ). Swept limit rows left s j r x) (sym b) w)
+    step : (r : ℕ) → r ≤ limit → Dec (r ≡ p) → flags (set left p false) r ≡ true → (i : ℕ) → i < j + 1 → Dec (i ≡ j) → applied limit rows r s i ≡ 0
+    step r h (yes q) n i l d = absurd (let e : flags (set left p false) r ≡ false = ap (flags (set left p false)) q ∙ here in cc)
+    step r h (no q) n i l (yes e) =
+        subst (λ (k : ℕ). applied limit rows r s k ≡ 0) (sym e) (w.before r (omega arith) (sym (get_or-set_other left p r false false q) ∙ n) (λ z. q (cc)))
+    step r h (no q) n i l (no ne) = w.kernel r h (sym (get_or-set_other left p r false false q) ∙ n) i (omega arith)
 
-pub reduced_start : (limit : ℕ) (rows left s : List ℕ) → limit ≤ 8 → Shape limit rows → ((k : ℕ) → k < 9 → get_or left k 0 ≡ 1) → Reduced limit rows left s 0
-reduced_start limit rows left s hl sh ones =
-    record { shape = sh; kernel = λ r h n i l. absurd (omega arith); many = omega (arith, count_all (suc limit) (λ r. get_or left r 0) (λ k l. ones k (omega arith))) }
+-- every row vanishes already
+pub reduced_none : (limit : ℕ) (rows : List (List ℕ)) (left : List Bool) (s : List ℕ) (j : ℕ) → Swept limit rows left s j (limit + 1) None → suc limit ≤ left_in (suc limit) left + j → Reduced limit rows left s (j + 1)
+reduced_none limit rows left s j w m =
+    record { shape = w.shape; kernel = λ r h n i l. step r h n i l (ℕ_discrete i j); many = omega arith }
+  where
+    step : (r : ℕ) → r ≤ limit → flags left r ≡ true → (i : ℕ) → i < j + 1 → Dec (i ≡ j) → applied limit rows r s i ≡ 0
+    step r h n i l (yes e) = subst (λ (k : ℕ). applied limit rows r s k ≡ 0) (sym e) (w.before r (omega arith) n (λ z. cc))
+    step r h n i l (no ne) = w.kernel r h n i (omega arith)
 
-pub row_vanishes : (limit : ℕ) (rows left s a : List ℕ) (j r : ℕ) → limit ≤ 8 → Reduced limit rows left s j → limit ≤ j → r ≤ limit → (get_or left r 0 ≡ 0 → ⊥) → ((l : ℕ) → l < 9 → get_or a l 0 ≡ at rows r l)
-    → (i : ℕ) → i < limit → sum (suc limit) (λ l. get_or a l 0 ⊗ get_or s (i + l) 0) ≡ 0
+pub reduced_start : (limit : ℕ) (rows : List (List ℕ)) (left : List Bool) (s : List ℕ) → limit ≤ 8 → Triangular limit rows → ((k : ℕ) → k < 9 → flags left k ≡ true) → Reduced limit rows left s 0
+reduced_start limit rows left s hl sh all_left =
+    record { shape = sh; kernel = λ r h n i l. absurd (omega arith); many = omega (arith, count_all (suc limit) (λ r. digit (flags left r)) (λ k l. ap digit (all_left k (omega arith)))) }
+
+pub row_vanishes : (limit : ℕ) (rows : List (List ℕ)) (left : List Bool) (s : List ℕ) (j r : ℕ) → limit ≤ 8 → Reduced limit rows left s j → limit ≤ j → r ≤ limit → flags left r ≡ true
+    → (i : ℕ) → i < limit → sum (suc limit) (λ l. at rows r l ⊗ get_or s (i + l) 0) ≡ 0
 unfolding applied
-row_vanishes limit rows left s a j r hl d hj hr n h i l =
-    sum_same (suc limit) (λ l. get_or a l 0 ⊗ get_or s (i + l) 0) (λ l. at rows r l ⊗ get_or s (i + l) 0) (λ l m. ap (λ (y : ℕ). y ⊗ get_or s (i + l) 0) (h l (omega arith)))
-    ∙ d.kernel r hr n i (omega arith)
-
--- the table of the unit rows
-unfoldable pub units : List ℕ
-units = 1 ∷ 0 ∷ 0 ∷ 0 ∷ 0 ∷ 0 ∷ 0 ∷ 0 ∷ 0 ∷ 0 ∷ 1 ∷ 0 ∷ 0 ∷ 0 ∷ 0 ∷ 0 ∷ 0 ∷ 0 ∷ 0 ∷ 0 ∷ 1 ∷ 0 ∷ 0 ∷ 0 ∷ 0 ∷ 0 ∷ 0 ∷ 0 ∷ 0 ∷ 0 ∷ 1 ∷ 0 ∷ 0 ∷ 0 ∷ 0 ∷ 0 ∷ 0 ∷ 0 ∷ 0 ∷ 0 ∷ 1 ∷ 0 ∷ 0 ∷ 0 ∷ 0 ∷ 0 ∷ 0 ∷ 0 ∷ 0 ∷ 0 ∷ 1 ∷ 0 ∷ 0 ∷ 0 ∷ 0 ∷ 0 ∷ 0 ∷ 0 ∷ 0 ∷ 0 ∷ 1 ∷ 0 ∷ 0 ∷ 0 ∷ 0 ∷ 0 ∷ 0 ∷ 0 ∷ 0 ∷ 0 ∷ 1 ∷ 0 ∷ 0 ∷ 0 ∷ 0 ∷ 0 ∷ 0 ∷ 0 ∷ 0 ∷ 0 ∷ 1 ∷ []
-
-unit_test : ℕ → ℕ → Bool
-unit_test r l = eqb (at units r l) (cond (eqb r l) 1 0)
-
-row_test : ℕ → Bool
-row_test r = all (unit_test r) 9
-
-units_tested : T (all row_test 9)
-unfolding row_test unit_test units
-units_tested = tt
-
-unit_at : (r l : ℕ) → r < 9 → l < 9 → at units r l ≡ cond (eqb r l) 1 0
-unfolding row_test unit_test
-unit_at r l a b = eqb→eq (at units r l) (cond (eqb r l) 1 0) (all_at (unit_test r) 9 (all_at row_test 9 units_tested r a) l b)
-
-pub units_shape : (limit : ℕ) → limit ≤ 8 → Shape limit units
-units_shape limit h =
-    record {
-      diagonal = λ r a. unit_at r r (omega arith) (omega arith) ∙ ap (λ (b : Bool). cond b 1 0) (eq-eqb r r refl);
-      behind = λ r l a b. unit_at r l (omega arith) (omega arith) ∙ ap (λ (b : Bool). cond b 1 0) (ne_eqb r l (λ e. omega arith));
-    }
+row_vanishes limit rows left s j r hl d hj hr n i l = d.kernel r hr n i (omega arith)

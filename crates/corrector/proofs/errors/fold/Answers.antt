@@ -1,10 +1,6 @@
 use Rattle.std.proofs.Common.{arith}
-use Rattle.outer_code.proofs.Filled.{filled_start}
-use Rattle.corrector.proofs.Folding.{folded, folded_more}
+use Rattle.corrector.proofs.Folding.{folded_more}
 use Rattle.corrector.proofs.errors.fold.Goals as goal
-
-pub loop-j-init : goal.loop-j-init
-loop-j-init c = filled_start (folded c.args.x c.args.sums.now) 0 c.args.sums.now
 
 pub loop-j-preserved : goal.loop-j-preserved
 loop-j-preserved c = folded_more c.args.x c.args.sums.now c.loop-j.sums c.loop-j.j c.mul.result (omega arith) c.mul.ensures c.loop-j.invariant

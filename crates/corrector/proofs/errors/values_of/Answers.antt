@@ -1,12 +1,14 @@
-use Rattle.std.proofs.Common.{arith}
-use Rattle.corrector.proofs.Evaluating.{evaluated_start, evaluated_more, evaluated_end}
+use Rattle.std.proofs.Common.{◌≡◌, ℕ, ◌+◌, length, get_or, take, ap, ◌∙◌, add-one, arith, rules}
+use Rattle.field.specs.Field.{◌⊗◌, gexp, gpow}
+use Rattle.outer_theory.specs.Sums.{sum}
+use Rattle.corrector.proofs.Slices.{added_front}
+use Rattle.corrector.proofs.Steps.{sum_taken}
 use Rattle.corrector.proofs.errors.values_of.Goals as goal
 
-pub loop-l-init : goal.loop-l-init
-loop-l-init c = evaluated_start c.args.locator.now c.args.n c.requires.short
-
-pub loop-l-preserved : goal.loop-l-preserved
-loop-l-preserved c = evaluated_more c.args.locator.now c.loop-l.values c.add_coefficient.new.values c.args.n c.loop-l.l c.add_coefficient.ensures c.loop-l.invariant
-
 pub returns : goal.returns
-returns c = evaluated_end c.args.locator.now c.loop-l.values c.args.n c.loop-l.l c.args.limit (omega arith) c.loop-l.invariant
+returns c m l =
+    let long : length c.add_values.new.values ≡ c.block-n.result = search rules in
+    let first = λ (m : ℕ). sum (length (take (c.args.shape.limit + 1) c.args.locator.now)) (λ l. get_or (take (c.args.shape.limit + 1) c.args.locator.now) l 0 ⊗ gpow (gexp m) l) in
+    added_front c.add_values.new.values _ c.block-n.result 255 first long (omega arith) c.add_values.ensures m (omega arith)
+    ∙ sum_taken (c.args.shape.limit + 1) c.args.locator.now (λ l. gpow (gexp m) l) (omega arith)
+    ∙ ap (λ (n : ℕ). sum n (λ l. get_or c.args.locator.now l 0 ⊗ gpow (gexp m) l)) (add-one c.args.shape.limit)

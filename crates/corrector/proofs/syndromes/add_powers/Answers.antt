@@ -3,19 +3,19 @@ use Rattle.corrector.proofs.Running.{running_start, running_more}
 use Rattle.corrector.proofs.syndromes.add_powers.Goals as goal
 use Rattle.corrector.proofs.syndromes.add_powers.Goals.{then-exponent-ge255, else-exponent-ge255}
 
-pub loop-i-init : goal.loop-i-init
-loop-i-init c = running_start c.args.start c.args.step c.args.values.now c.requires.low
+pub loop-value-init : goal.loop-value-init
+loop-value-init c = running_start c.args.start c.args.step c.args.values.now c.requires.low
 
-pub loop-i-preserved : goal.loop-i-preserved
-loop-i-preserved c =
-    running_more c.args.start c.args.step c.args.values.now c.loop-i.values c.loop-i.exponent c.if-exponent-ge255.exponent c.loop-i.i c.power.result
+pub loop-value-preserved : goal.loop-value-preserved
+loop-value-preserved c =
+    running_more c.args.start c.args.step c.args.values.now c.loop-value.values c.loop-value.exponent c.if-exponent-ge255.exponent c.loop-value.value-index c.power.result
     (omega arith) c.power.ensures
     (elim c.if-exponent-ge255.branch [
       | then-exponent-ge255 w ↦ inr (omega (arith, w.exponent-is, w.if-exponent-ge255.true))
       | else-exponent-ge255 w ↦ inl w.exponent-is
     ])
     (elim c.if-exponent-ge255.branch [
-      | then-exponent-ge255 w ↦ omega (arith, w.exponent-is, w.if-exponent-ge255.true, c.loop-i.invariant.low)
+      | then-exponent-ge255 w ↦ omega (arith, w.exponent-is, w.if-exponent-ge255.true, c.loop-value.invariant.low)
       | else-exponent-ge255 w ↦ omega (arith, w.exponent-is, w.if-exponent-ge255.false)
     ])
-    c.loop-i.invariant
+    c.loop-value.invariant
