@@ -1,51 +1,46 @@
 -- Points to bits: what each loop has written, and that points are heard in one way.
 -- Assumes nothing.
-use Rattle.std.proofs.Common.{◌≡◌, ℕ, ◌+◌, ◌-◌, ◌*◌, ◌/◌, ◌%◌, ◌^◌, ◌<◌, ◌≤◌, Bool, false, eqb, ◌≢◌, ◌⊎◌, List, length, get_or, set, ℤ, sym, ap, ◌∙◌, subst, inl, inr, mod-lt, mul_comm, div-lt_iff_lt-mul, mul-le-mul_left, mul-suc, arith, get_or-set_other, get_or-set_same}
+use Rattle.std.proofs.Common.{◌≡◌, ℕ, ◌+◌, ◌-◌, ◌*◌, ◌/◌, ◌%◌, ◌<◌, ◌≤◌, Bool, ◌⊎◌, List, ◌++◌, length, take, drop, get_or, ℤ, sym, ap, ◌∙◌, subst, subst₂, inl, inr, mod-lt, mul_comm, div-lt_iff_lt-mul, mul-le-mul_left, mul-suc, arith}
+use Rattle.std.proofs.lemmas.List.{length-take-le, get_or-drop}
+use Rattle.std.proofs.Math.Seq.{of_parts}
+use borrow.Rule.Slice.PartMut.{post_of}
 use native.Mathlib.Decide.{dec_lt, ℕ_discrete}
 use native.Mathlib.Nat.{div-add-mod}
 use Rattle.words.specs.Words.{Bits, flags, value}
-use Rattle.words.proofs.Bridge.{value_same, value_of, value_below}
+use Rattle.words.proofs.Bridge.{value_same, value_below}
 use Rattle.standard.specs.Profiles.{Modulation}
 use Rattle.standard.specs.declared.point.Point.{Point}
 use Rattle.constellation.specs.Constellation.{width, in_phase, quadrature, point, origin}
 use Rattle.constellation.specs.Decisions.{Decided, Heard, Decisions}
-use Rattle.constellation.specs.Steps.{Kept, Written, AxisHeard, PointHeard}
-use Rattle.constellation.proofs.Mapping.{width_of, value_one, q_is}
+use Rattle.constellation.specs.Steps.{Kept, AxisHeard, PointHeard}
+use Rattle.constellation.proofs.Mapping.{part_length, width_of, value_one, q_is}
 use Rattle.constellation.proofs.Nearness.{decided_some, decided_one, decided_own}
 
 -- ---- one axis
--- the first n of the b bits of v are written
-pub record WrittenTo (at b v n : ℕ) (before now : Bits) : Type 0 where
-  pub goes : (u : ℕ) → u < n → now (at + u) ≡ eqb (v / 2 ^ (b - 1 - u) % 2) 1
-  pub kept : Kept at b before now
+-- the n bits ys were lent as the part of xs from a place on, and put back
+module _ (at w n : ℕ) (xs ys : List Bool) (e : w ≡ n) (h : at + n ≤ length xs) (l : length ys ≡ n) where
+  abbrev whole : List Bool
+  whole = take at xs ++ (ys ++ post_of at (at + w - at) xs)
 
-pub written_more : (at b v n : ℕ) (before : Bits) (bits : List Bool) → n < b → at + b ≤ length bits → WrittenTo at b v n before (flags bits)
-    → WrittenTo at b v (n + 1) before (flags (set bits (at + n) (eqb (v / 2 ^ (b - 1 - n) % 2) 1)))
-written_more at b v n before bits h l w =
-    record {
-      goes = λ u k. elim (ℕ_discrete u n) [
-        | yes e ↦ subst (λ (x : ℕ). flags ys (at + x) ≡ eqb (v / 2 ^ (b - 1 - x) % 2) 1) (sym e) (get_or-set_same bits (at + n) d false (omega arith))
-        | no e ↦ get_or-set_other bits (at + n) (at + u) d false (λ f. e (let z : u ≡ n = omega arith in z)) ∙ w.goes u (omega arith)
-      ];
-      kept = λ k o. get_or-set_other bits (at + n) k d false (outside k o) ∙ w.kept k o;
-    }
-  where
-    d : Bool
-    d = eqb (v / 2 ^ (b - 1 - n) % 2) 1
+  before_length : length (take at xs) ≡ at
+  before_length = length-take-le at xs (omega arith)
 
-    ys : List Bool
-    ys = set bits (at + n) d
+  put_part : (u : ℕ) → u < n → flags whole (at + u) ≡ flags ys u
+  put_part u k = grind (arith, of_parts, get_or-drop, before_length)
 
-    outside : (k : ℕ) → (k < at) ⊎ (at + b ≤ k) → k ≢ at + n
-    outside k (inl o) e = omega arith
-    outside k (inr o) e = omega arith
+  put_kept : Kept at n (flags xs) (flags whole)
+  put_kept k (inl o) = grind (arith, of_parts, get_or-drop, before_length)
+  put_kept k (inr o) = grind (arith, of_parts, get_or-drop, before_length)
 
-pub written_all : (at b v n : ℕ) (before now : Bits) → b ≤ n → v < 2 ^ b → WrittenTo at b v n before now → Written at b v before now
-written_all at b v n before now h l w =
-    record {
-      value = value_same b (λ u. now (at + u)) (λ u. eqb (v / 2 ^ (b - 1 - u) % 2) 1) (λ u k. w.goes u (omega arith)) ∙ value_of b v l;
-      kept = w.kept;
-    }
+  pub axis_heard : (v : ℕ) (x : ℤ) → Decided n x v → value (length (take (at + w - at) (drop at xs))) (flags ys) ≡ v → AxisHeard at n x (flags xs) (flags whole)
+  axis_heard v x d r =
+      record {
+        decided = subst (λ (k : ℕ). Decided n x k) (sym (value_same n (λ u. flags whole (at + u)) (flags ys) put_part ∙ same)) d;
+        kept = put_kept;
+      }
+    where
+      same : value n (flags ys) ≡ v
+      same = ap (λ (k : ℕ). value k (flags ys)) (sym (part_length at w n xs e h)) ∙ r
 
 -- an axis whose bits did not change
 axis_kept : (b : ℕ) (x : ℤ) (f : ℕ → ℕ) (before after : Bits) → ((u : ℕ) → u < b → after (f u) ≡ before (f u)) → Decided b x (value b (λ u. before (f u))) → Decided b x (value b (λ u. after (f u)))
@@ -58,30 +53,31 @@ width_le c m = omega arith
 width_two : (c : ℕ) → Modulation c → 1 < c → width c + width c ≡ c
 width_two c m h = omega arith
 
-pub in_phase_heard : (c t b : ℕ) (p : Point) (before after : Bits) → Modulation c → b ≡ width c → c ≤ 1 → AxisHeard (c * t) b p.i before after → PointHeard c t p before after
-in_phase_heard c t b p before after m e h a =
-    record {
-      i = subst (λ (n : ℕ). Decided n p.i (value n (λ u. after (c * t + u)))) e a.decided;
-      q = λ l. absurd (omega arith);
-      kept = λ k o. a.kept k (outside k o);
-    }
+-- as it is computed: the bits of the carrier begin at a place, and an axis has w
+pub in_phase_heard : (c t at : ℕ) (p : Point) (before after : Bits) → Modulation c → at ≡ c * t → c ≤ 1 → AxisHeard at (width c) p.i before after → PointHeard c t p before after
+in_phase_heard c t at p before after m e h b =
+    let a = subst (λ (k : ℕ). AxisHeard k (width c) p.i before after) e b in
+    record { i = a.decided; q = λ l. absurd (omega arith); kept = λ k o. a.kept k (outside k o) }
   where
-    outside : (k : ℕ) → (k < c * t) ⊎ (c * t + c ≤ k) → (k < c * t) ⊎ (c * t + b ≤ k)
+    outside : (k : ℕ) → (k < c * t) ⊎ (c * t + c ≤ k) → (k < c * t) ⊎ (c * t + width c ≤ k)
     outside k (inl o) = inl o
     outside k (inr o) = inr (let z = width_le c m in omega arith)
 
-pub point_heard : (c t b : ℕ) (p : Point) (before mid after : Bits) → Modulation c → b ≡ width c → 1 < c → AxisHeard (c * t) b p.i before mid → AxisHeard (c * t + b) b p.q mid after → PointHeard c t p before after
-point_heard c t b p before mid after m e h x y =
-    record {
-      i = subst (λ (n : ℕ). Decided n p.i (value n (λ u. after (c * t + u)))) e
-          (axis_kept b p.i (λ u. c * t + u) mid after (λ u l. y.kept (c * t + u) (inl (omega arith))) x.decided);
-      q = λ _. subst (λ (n : ℕ). Decided n p.q (value n (λ u. after (c * t + n + u)))) e y.decided;
-      kept = outside;
-    }
+pub point_heard : (c t w at : ℕ) (p : Point) (before mid after : Bits) → Modulation c → w ≡ width c → at ≡ c * t → 1 < c → AxisHeard at (width c) p.i before mid → AxisHeard (at + w) (width c) p.q mid after → PointHeard c t p before after
+point_heard c t w at p before mid after m ew ea h a b =
+    both (subst (λ (k : ℕ). AxisHeard k (width c) p.i before mid) ea a) (subst₂ (λ (k v : ℕ). AxisHeard (k + v) (width c) p.q mid after) ea ew b)
   where
-    outside : Kept (c * t) c before after
-    outside k (inl o) = y.kept k (inl (omega arith)) ∙ x.kept k (inl o)
-    outside k (inr o) = let z = width_two c m h in y.kept k (inr (omega arith)) ∙ x.kept k (inr (omega arith))
+    both : AxisHeard (c * t) (width c) p.i before mid → AxisHeard (c * t + width c) (width c) p.q mid after → PointHeard c t p before after
+    both x y =
+        record {
+          i = axis_kept (width c) p.i (λ u. c * t + u) mid after (λ u l. y.kept (c * t + u) (inl (omega arith))) x.decided;
+          q = λ _. y.decided;
+          kept = outside;
+        }
+      where
+        outside : Kept (c * t) c before after
+        outside k (inl o) = y.kept k (inl (omega arith)) ∙ x.kept k (inl o)
+        outside k (inr o) = let z = width_two c m h in y.kept k (inr (omega arith)) ∙ x.kept k (inr (omega arith))
 
 -- ---- all points
 -- the first n points are heard, and the rest is as it was

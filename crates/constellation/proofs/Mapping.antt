@@ -1,13 +1,14 @@
 -- Bits to points: what is read, what the loop has written, and that points carry their bits.
 -- Assumes nothing.
-use Rattle.std.proofs.Common.{◌≡◌, ℕ, zero, suc, ◌+◌, ◌-◌, ◌*◌, ◌^◌, ◌<◌, ◌≤◌, Bool, true, false, cond, eqb, List, length, get_or, set, ℤ, pos, nat_abs, sym, refl, ap, ◌∙◌, subst, ap₂, inl, inr, add-zero, arith, get_or-set_other, get_or-set_same}
+use Rattle.std.proofs.Common.{◌≡◌, ℕ, zero, suc, ◌+◌, ◌-◌, ◌*◌, ◌^◌, ◌<◌, ◌≤◌, Bool, true, false, cond, eqb, List, length, take, drop, ℤ, pos, nat_abs, sym, refl, ap, ◌∙◌, subst, ap₂, inl, inr, add-one, arith, lit<}
+use Rattle.std.proofs.lemmas.List.{length-take-le, length-drop, get_or-take, get_or-drop}
 use native.Mathlib.Decide.{dec_lt, ℕ_discrete}
 use mir.Val.{bool_byte}
 use Rattle.words.specs.Words.{Bits, flags, value, digit}
-use Rattle.words.proofs.Bridge.{digit_lt, digit_eqb, value_below, value_suc}
+use Rattle.words.proofs.Bridge.{digit_lt, digit_eqb, value_below, value_same, value_suc}
 use Rattle.standard.specs.Profiles.{Modulation}
 use Rattle.standard.specs.declared.point.Point.{Point}
-use Rattle.constellation.specs.Constellation.{Width, width, level, in_phase, quadrature, point, origin, Carried}
+use Rattle.constellation.specs.Constellation.{Width, width, level, in_phase, quadrature, point, Carried}
 use Rattle.constellation.proofs.Ranks.{level_within, level_one}
 
 pub width_of : (c : ℕ) → Modulation c → Width (width c)
@@ -34,34 +35,35 @@ value_one (suc n) a b e u h =
     ]
 
 -- ---- what is read
-pub record Read (b : ℕ) (a : Bits) (r : ℕ) : Type 0 where
-  pub value : r ≡ value b a
-  pub below : r < 2 ^ b
-
-read : (b n r : ℕ) (a : Bits) → b ≡ n → r ≡ value n a → Read b a r
-read b n r a e h = subst (λ (x : ℕ). Read x a r) (sym e) (record { value = h; below = subst (λ (x : ℕ). x < 2 ^ n) (sym h) (value_below n a) })
-
-byte : (x : Bool) → bool_byte x ≡ digit x
+pub byte : (x : Bool) → bool_byte x ≡ digit x
 byte true = refl
 byte false = refl
 
-module _ (sent : List Bool) (at b : ℕ) where
-  first : bool_byte (flags sent at) ≡ digit (flags sent (at + 0))
-  first = byte (flags sent at) ∙ ap (λ (n : ℕ). digit (flags sent n)) (sym (add-zero at))
+-- r is the number that the first n bits are
+pub record Read (n : ℕ) (a : Bits) (r : ℕ) : Type 0 where
+  pub value : r ≡ value n a
+  pub below : r < 2 ^ n
 
-  pub reads_1 : b ≡ 1 → Read b (λ u. flags sent (at + u)) (bool_byte (flags sent at))
-  unfolding value
-  reads_1 e = read b 1 (bool_byte (flags sent at)) (λ u. flags sent (at + u)) e (let f = first in omega arith)
+pub read_none : (a : Bits) → Read 0 a 0
+unfolding value
+read_none a = record { value = refl; below = lit< tt }
 
-  pub reads_2 : b ≡ 2 → Read b (λ u. flags sent (at + u)) (bool_byte (flags sent at) * 2 + bool_byte (flags sent (at + 1)))
-  unfolding value
-  reads_2 e = read b 2 (bool_byte (flags sent at) * 2 + bool_byte (flags sent (at + 1))) (λ u. flags sent (at + u)) e (let f = first in let g = byte (flags sent (at + 1)) in omega arith)
+pub read_more : (n r d : ℕ) (a : Bits) → d ≡ digit (a n) → Read n a r → Read (n + 1) a (r * 2 + d)
+read_more n r d a e p = record { value = is; below = subst (λ (x : ℕ). x < 2 ^ (n + 1)) (sym is) (value_below (n + 1) a) }
+  where
+    is : r * 2 + d ≡ value (n + 1) a
+    is = let f = value_suc n a in let g = p.value in rw add-one (omega arith)
 
-  pub reads_3 : b ≡ 3 → Read b (λ u. flags sent (at + u)) (bool_byte (flags sent at) * 4 + bool_byte (flags sent (at + 1)) * 2 + bool_byte (flags sent (at + 2)))
-  unfolding value
-  reads_3 e =
-      read b 3 (bool_byte (flags sent at) * 4 + bool_byte (flags sent (at + 1)) * 2 + bool_byte (flags sent (at + 2))) (λ u. flags sent (at + u)) e
-      (let f = first in let g = byte (flags sent (at + 1)) in let h = byte (flags sent (at + 2)) in omega arith)
+-- the n bits from a place on, as a part of a slice
+pub part_length : (at w n : ℕ) (xs : List Bool) → w ≡ n → at + n ≤ length xs → length (take (at + w - at) (drop at xs)) ≡ n
+part_length at w n xs e h = length-take-le (at + w - at) (drop at xs) (let d = length-drop at xs in omega arith) ∙ (let z : at + w - at ≡ n = omega arith in z)
+
+pub part_value : (at w n : ℕ) (xs : List Bool) → w ≡ n → at + n ≤ length xs
+    → value (length (take (at + w - at) (drop at xs))) (flags (take (at + w - at) (drop at xs))) ≡ value n (λ u. flags xs (at + u))
+part_value at w n xs e h =
+    ap (λ (k : ℕ). value k (flags (take (at + w - at) (drop at xs)))) (part_length at w n xs e h)
+    ∙ value_same n (flags (take (at + w - at) (drop at xs))) (λ u. flags xs (at + u))
+    (λ u l. get_or-take (at + w - at) (drop at xs) u false (omega arith) ∙ get_or-drop at xs u false)
 
 -- ---- one point
 pub q_is : (c : ℕ) (sent : Bits) (t : ℕ) → 1 < c → (point c sent t).q ≡ level (width c) (quadrature c sent t)
@@ -70,22 +72,13 @@ q_is c sent t h = not_one c (pos 0) (level (width c) (quadrature c sent t)) h
     not_one : (c : ℕ) (x y : ℤ) → 1 < c → cond (eqb c 1) x y ≡ y
     not_one c x y h = grind arith
 
-pub point_by : (c b : ℕ) (sent : Bits) (t : ℕ) (x y : ℤ) → 1 < c → b ≡ width c → x ≡ level b (value b (λ u. sent (c * t + u))) → y ≡ level b (value b (λ u. sent (c * t + b + u)))
+-- as it is computed: its bits begin at a place, and an axis has w
+pub point_by : (c w at : ℕ) (sent : Bits) (t : ℕ) (x y : ℤ) → 1 < c → w ≡ width c → at ≡ c * t → x ≡ level (width c) (value (width c) (λ u. sent (at + u))) → y ≡ level (width c) (value (width c) (λ u. sent (at + w + u)))
     → ◌≡◌ {A = Point} (record { i = x; q = y }) (point c sent t)
-point_by c b sent t x y h e ex ey =
+point_by c w at sent t x y h ew ea ex ey =
     ap₂ (λ (i q : ℤ). record { i = i; q = q })
-    (ex ∙ ap (λ (w : ℕ). level w (value w (λ u. sent (c * t + u)))) e)
-    (ey ∙ ap (λ (w : ℕ). level w (value w (λ u. sent (c * t + w + u)))) e ∙ sym (q_is c sent t h))
-
--- ---- the points that the loop has written
-pub mapped_more : (c t : ℕ) (sent : Bits) (points : List Point) (p : Point) → t < length points → p ≡ point c sent t
-    → ((k : ℕ) → k < t → get_or points k origin ≡ point c sent k)
-    → (k : ℕ) → k < t + 1 → get_or (set points t p) k origin ≡ point c sent k
-mapped_more c t sent points p l e inv k h =
-    elim (ℕ_discrete k t) [
-      | yes f ↦ subst (λ (n : ℕ). get_or (set points t p) n origin ≡ point c sent n) (sym f) (get_or-set_same points t p origin l ∙ e)
-      | no f ↦ get_or-set_other points t k p origin f ∙ inv k (omega arith)
-    ]
+    (ex ∙ ap (λ (a : ℕ). level (width c) (value (width c) (λ u. sent (a + u)))) ea)
+    (ey ∙ ap₂ (λ (a b : ℕ). level (width c) (value (width c) (λ u. sent (a + b + u)))) ea ew ∙ sym (q_is c sent t h))
 
 -- ---- points carry their bits
 axis_one : (b : ℕ) (x y : Bits) → Width b → level b (value b x) ≡ level b (value b y) → (u : ℕ) → u < b → x u ≡ y u

@@ -16,11 +16,6 @@ pub record Ranked (l : ℕ) (x : ℤ) (n : ℕ) : Type 0 where
 abbrev pub Kept : (at n : ℕ) (before after : Bits) → Type 0
 Kept at n before after = (k : ℕ) → (k < at) ⊎ (at + n ≤ k) → after k ≡ before k
 
--- the b bits from at on are those of the number v
-pub record Written (at b v : ℕ) (before after : Bits) : Type 0 where
-  pub value : value b (λ u. after (at + u)) ≡ v
-  pub kept : Kept at b before after
-
 -- the b bits from at on are those that x is decided to
 pub record AxisHeard (at b : ℕ) (x : ℤ) (before after : Bits) : Type 0 where
   pub decided : Decided b x (value b (λ u. after (at + u)))

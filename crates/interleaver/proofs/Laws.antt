@@ -1,13 +1,12 @@
 -- The laws of the interleaver as its public functions promise them, and the steps of its loops.
 -- Assumes nothing.
-use mathlib.Core.Path.{◌≡◌, sym, ◌∙◌, ap, subst}
+use mathlib.Core.Path.{◌≡◌, refl, sym, ◌∙◌, ap, subst}
 use Prim.Native.Nat.{ℕ, ◌+◌, ◌-◌, ◌*◌, ◌/◌, ◌%◌, ◌<◌}
-use native.Mathlib.Omega.{arith}
 use native.Mathlib.Nat.{div-add-mod, mod-lt, div-lt_iff_lt-mul, mul_comm}
 use Rattle.words.specs.Words.{Bits}
 use Rattle.standard.specs.Profiles.{Modulation}
 use Rattle.interleaver.specs.Interleaver.{size, turn, place, source, Interleaved, Permutation}
-use Rattle.interleaver.proofs.Permutation.{parts, size_pos, place_below, source_below, source_place, place_source, place_at}
+use Rattle.interleaver.proofs.Permutation.{parts, size_rows, size_pos, place_below, source_below, source_place, place_source, place_at}
 
 pub injective : (g c k l : ℕ) → 0 < g → Modulation c → k < size g c → l < size g c → place g c k ≡ place g c l → k ≡ l
 injective g c k l hg m hk hl e =
@@ -43,15 +42,8 @@ pub record Placed (g c k r : ℕ) : Type 0 where
   pub value : r ≡ place g c k
   pub below : r < size g c
 
-placed_at : (g c k r : ℕ) → 0 < g → Modulation c → k < size g c → r ≡ place g c k → Placed g c k r
-placed_at g c k r hg m h e = record { value = e; below = subst (λ (n : ℕ). n < size g c) (sym e) (place_below g c (parts c m) hg k h) }
-
-pub placed_by : (s g c k : ℕ) → turn c ≡ s → 0 < g → Modulation c → k < size g c → Placed g c k ((g * c * (k % 12) + k / 12) / s * s + (g * c * (k % 12) + k / 12 + size g c - k % 12) % s)
-placed_by s g c k e hg m h = placed_at g c k _ hg m h (sym (place_at g c (parts c m) hg s k e h))
-
--- where the turn is 1 nothing is turned
-pub placed_plain : (g c k : ℕ) → turn c ≡ 1 → 0 < g → Modulation c → k < size g c → Placed g c k (g * c * (k % 12) + k / 12)
-placed_plain g c k e hg m h =
-    placed_at g c k _ hg m h
-    ((let q : g * c * (k % 12) + k / 12 ≡ (g * c * (k % 12) + k / 12) / 1 * 1 + (g * c * (k % 12) + k / 12 + size g c - k % 12) % 1 = omega arith in q)
-    ∙ sym (place_at g c (parts c m) hg 1 k e h))
+pub placed_by : (s w g c k : ℕ) → s ≡ turn c → w ≡ g * c → 0 < g → Modulation c → k < size g c → Placed g c k ((w * (k % 12) + k / 12) / s * s + (w * (k % 12) + k / 12 + 12 * w - k % 12) % s)
+placed_by s w g c k es ew hg m h =
+    subst (λ (x : ℕ). Placed g c k ((x * (k % 12) + k / 12) / s * s + (x * (k % 12) + k / 12 + 12 * x - k % 12) % s)) (sym ew)
+    (subst (λ (n : ℕ). Placed g c k ((g * c * (k % 12) + k / 12) / s * s + (g * c * (k % 12) + k / 12 + n - k % 12) % s)) (size_rows g c)
+    (subst (Placed g c k) (place_at g c (parts c m) hg s k (sym es) h) (record { value = refl; below = place_below g c (parts c m) hg k h })))

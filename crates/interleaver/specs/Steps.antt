@@ -2,7 +2,21 @@
 -- Assumes nothing.
 use Rattle.std.specs.Prelude.{◌≡◌, ◌⊎◌, ℕ, ◌+◌, ◌*◌, ◌%◌, ◌<◌, ◌≤◌}
 use Rattle.words.specs.Words.{Bits}
-use Rattle.interleaver.specs.Interleaver.{size, turn}
+use Rattle.standard.specs.Modulations.{carrier_bits}
+use Rattle.interleaver.specs.declared.Interleaver.{Interleaver}
+use Rattle.interleaver.specs.declared.steps.Way.{Way}
+use Rattle.interleaver.specs.declared.steps.Way.TheVariants.{Forth, Back}
+use Rattle.interleaver.specs.Interleaver.{size, turn, place}
+
+-- where coded bit k is read
+abbrev pub from : Way → Interleaver → ℕ → ℕ
+from Forth x k = k
+from Back x k = place x.subchannels (carrier_bits x.modulation) k
+
+-- where it is written
+abbrev pub to : Way → Interleaver → ℕ → ℕ
+to Forth x k = place x.subchannels (carrier_bits x.modulation) k
+to Back x k = k
 
 -- coded bits so far apart go to places turn c apart
 abbrev pub stride : ℕ → ℕ
@@ -22,3 +36,8 @@ pub record Run (g c base first : ℕ) (from to : ℕ → ℕ) (word before after
   pub goes : (k : ℕ) → k < size g c → k % stride c ≡ first → after (base + to k) ≡ word (base + from k)
   pub others : (k : ℕ) → k < size g c → (k % stride c ≡ first → ⊥) → after (base + to k) ≡ before (base + to k)
   pub kept : Kept g c base before after
+
+-- of the first n symbols, every bit of the word is written, and no other
+pub record Symbols (g c n : ℕ) (from to : ℕ → ℕ) (word before after : Bits) : Type 0 where
+  pub goes : (b k : ℕ) → b < n → k < size g c → after (size g c * b + to k) ≡ word (size g c * b + from k)
+  pub rest : (j : ℕ) → size g c * n ≤ j → after j ≡ before j

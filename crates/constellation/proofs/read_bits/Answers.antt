@@ -1,12 +1,19 @@
-use Rattle.std.proofs.Common.{arith}
-use Rattle.constellation.proofs.Mapping.{reads_1, reads_2, reads_3}
+use Rattle.std.proofs.Common.{ℕ, ◌≤◌, ◌^◌, ◌∙◌, arith, lit<}
+use Rattle.std.proofs.Math.Nat.{pow-le-pow_right}
+use Rattle.words.specs.Words.{flags}
+use Rattle.constellation.proofs.Mapping.{byte, read_none, read_more}
 use Rattle.constellation.proofs.read_bits.Goals as goal
 
-pub returns-then-b-eq1 : goal.returns-then-b-eq1
-returns-then-b-eq1 c = let r = reads_1 c.args.sent.now c.args.at c.args.b (omega arith) in record { value = r.value; below = r.below }
+pow_few : (n : ℕ) → n ≤ 2 → 2 ^ n ≤ 2 ^ 2
+pow_few n h = pow-le-pow_right (lit< tt) h
 
-pub returns-then-b-eq2 : goal.returns-then-b-eq2
-returns-then-b-eq2 c = let r = reads_2 c.args.sent.now c.args.at c.args.b (omega arith) in record { value = r.value; below = r.below }
+pub overflow_mul-v : goal.overflow_mul-v
+overflow_mul-v c =
+    let p : 2 ^ c.loop-bit.bit-index ≤ 2 ^ 2 = pow_few c.loop-bit.bit-index (omega arith) in
+    let b = c.loop-bit.invariant.below in omega arith
 
-pub returns-else-b-eq2 : goal.returns-else-b-eq2
-returns-else-b-eq2 c = let r = reads_3 c.args.sent.now c.args.at c.args.b (omega arith) in record { value = r.value; below = r.below }
+pub loop-bit-init : goal.loop-bit-init
+loop-bit-init c = read_none (flags c.args.bits.now)
+
+pub loop-bit-preserved : goal.loop-bit-preserved
+loop-bit-preserved c = read_more c.loop-bit.bit-index c.loop-bit.v c.from.result (flags c.args.bits.now) (c.from.ensures ∙ byte (flags c.args.bits.now c.loop-bit.bit-index)) c.loop-bit.invariant

@@ -1,12 +1,9 @@
-use Rattle.std.proofs.Common.{arith}
+use Rattle.std.proofs.Common.{ℕ, ◌-◌, ◌/◌, ◌%◌, ◌^◌, ◌∙◌, eqb, length, arith}
 use Rattle.words.specs.Words.{flags}
-use Rattle.constellation.proofs.Hearing.{written_more, written_all}
+use Rattle.words.proofs.Bridge.{value_same, value_of}
 use Rattle.constellation.proofs.write_bits.Goals as goal
-
-pub loop-u-preserved : goal.loop-u-preserved
-loop-u-preserved c =
-    written_more c.args.at c.args.b c.args.v c.loop-u.u (flags c.args.bits.now) c.loop-u.bits c.loop-u-test.true (omega arith) c.loop-u.invariant
 
 pub returns : goal.returns
 returns c =
-    written_all c.args.at c.args.b c.args.v c.loop-u.u (flags c.args.bits.now) (flags c.loop-u.bits) (omega arith) c.requires.among c.loop-u.invariant
+    let b : ℕ = length c.args.bits.now in
+    value_same b (flags c.loop-u.bits) (λ u. eqb (c.args.v / 2 ^ (b - 1 - u) % 2) 1) (λ u h. c.loop-u.invariant u (omega arith)) ∙ value_of b c.args.v c.requires.among
