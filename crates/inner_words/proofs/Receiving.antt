@@ -3,7 +3,7 @@
 use Rattle.std.proofs.Common.{◌≡◌, ℕ, zero, suc, ◌+◌, ◌-◌, ◌*◌, ◌/◌, ◌%◌, ◌^◌, ◌<◌, ◌≤◌, Bool, true, false, eqb, Some, sym, refl, ap, ◌∙◌, subst, ⊎_elim, eq-or-lt_of_le, arith}
 use Rattle.std.proofs.lemmas.Bool.{cases_lt, ltb-true, lt-ltb}
 use Rattle.words.specs.Words.{Bits, digit}
-use Rattle.words.proofs.Bridge.{digit_lt}
+use Rattle.words.proofs.Bridge.{digit_lt, digit_eqb}
 use Rattle.inner_code.specs.Inner.{earlier, coded, Rated}
 use Rattle.paths.specs.Model.{after, paid, onward}
 use Rattle.paths.specs.Ties.{state, state_of, First, BitsFirst, lower_bit, same_states, lower_state}
@@ -18,11 +18,11 @@ is_open b x e = ap (λ z. open_if z x) e
 
 pub opened : {X : Type 0} (b : Bool) (x y : X) → open_if b x ≡ Some y → (b ≡ true) × (x ≡ y)
 opened true x y e = (refl, cc)
-opened false x y e = let z : ◌≡◌ {A = ℕ} 0 1 = cc in absurd (omega arith)
+opened false x y e = cc
 
 may : (n k : ℕ) (b : Bool) → (n ≤ k + 8 → b ≡ false) → allowed n k b ≡ true
 may n k false h = refl
-may n k true h = ⊎_elim (λ l. lt-ltb (k + 8) n l) (λ l. let z : ◌≡◌ {A = ℕ} 1 0 = ap digit (h l) in absurd (omega arith)) (cases_lt (k + 8) n)
+may n k true h = ⊎_elim (λ l. lt-ltb (k + 8) n l) (λ l. cc (h l)) (cases_lt (k + 8) n)
 
 must : (n k : ℕ) (b : Bool) → allowed n k b ≡ true → n ≤ k + 8 → b ≡ false
 must n k false e l = refl
@@ -75,10 +75,7 @@ high s (suc (suc (suc (suc (suc zero))))) l = omega arith
 high s (suc (suc (suc (suc (suc (suc d)))))) l = absurd (omega arith)
 
 digit_inj : (a b : Bool) → digit a ≡ digit b → a ≡ b
-digit_inj true true e = refl
-digit_inj false false e = refl
-digit_inj true false e = absurd (omega arith)
-digit_inj false true e = absurd (omega arith)
+digit_inj a b e = sym (digit_eqb a) ∙ ap (λ (z : ℕ). eqb z 1) e ∙ digit_eqb b
 
 zeros : (u : Bits) (k : ℕ) → ((j : ℕ) → j < k → u j ≡ false) → register u k ≡ 0
 unfolding register
@@ -125,7 +122,7 @@ module _ (u v : Bits) (n k : ℕ) (early : k < n) (gap : window v k ≡ window u
   high_v = sym (window_bit v k 6 (omega arith)) ∙ odd_is (window v k / 64) true (let c = register_lt v k in let b = digit_lt (v k) in omega arith)
 
   deep : 6 ≤ k
-  deep = ⊎_elim (λ l. let z : ◌≡◌ {A = ℕ} 0 1 = ap digit (sym (earlier_before v k 6 l) ∙ high_v) in absurd (omega arith)) (λ l. l) (cases_lt k 6)
+  deep = ⊎_elim (λ l. cc (earlier_before v k 6 l, high_v)) (λ l. l) (cases_lt k 6)
 
   rest : (i : ℕ) → k - 6 < i → i < n → u i ≡ v i
   rest i l m =

@@ -121,12 +121,6 @@ sent_all p q two_thirds = omega arith
 sent_all p q three_quarters = omega arith
 sent_all p q five_sixths = omega arith
 
-pub sent_le : (p k n : ℕ) → Rated p → k ≤ n → sent p k ≤ sent p n
-sent_le p k n half l = omega arith
-sent_le p k n two_thirds l = omega arith
-sent_le p k n three_quarters l = omega arith
-sent_le p k n five_sixths l = omega arith
-
 pub sent_more : (p k n : ℕ) → Rated p → k < n → sent p k < sent p n
 sent_more p k n half l = omega arith
 sent_more p k n two_thirds l = omega arith

@@ -4,7 +4,7 @@ use Rattle.std.proofs.Common.{◌≡◌, ℕ, zero, suc, ◌+◌, ◌-◌, ◌*�
 use native.Mathlib.Nat.{zero-div}
 use Rattle.std.proofs.lemmas.Bool.{cases_lt}
 use Rattle.words.specs.Words.{Bits, Bytes, ◌⊻◌, plus, digit, ones, bits, bytes, value}
-use Rattle.words.proofs.Bridge.{value_same}
+use Rattle.words.proofs.Bridge.{digit_eqb, value_same}
 use Rattle.inner_code.specs.Inner.{earlier, x, y, coded, Rated}
 use Rattle.inner_code.proofs.Coding.{ones_same}
 use Rattle.paths.specs.Ties.{BitsFirst, same_bits, lower_bit}
@@ -18,11 +18,8 @@ both_first u v n (same_bits h) g k l = h k l
 both_first u v n (lower_bit i a b c d) (same_bits h) k l = sym (h k l)
 both_first u v n (lower_bit i a b c d) (lower_bit j a' b' c' d') k l =
     ⊎_elim
-    (λ m. let z : ◌≡◌ {A = ℕ} 0 1 = ap digit (sym b ∙ sym (d' i m a) ∙ c) in absurd (omega arith))
-    (λ m. ⊎_elim
-    (λ e. let z : ◌≡◌ {A = ℕ} 0 1 = ap digit (sym b ∙ ap u e ∙ c') in absurd (omega arith))
-    (λ e. let z : ◌≡◌ {A = ℕ} 0 1 = ap digit (sym b' ∙ sym (d j e a') ∙ c') in absurd (omega arith))
-    (eq-or-lt_of_le m))
+    (λ m. cc (d' i m a))
+    (λ m. ⊎_elim (λ e. cc (ap u e)) (λ e. cc (d j e a')) (eq-or-lt_of_le m))
     (cases_lt j i)
 
 pub nearest_unique : (p q : ℕ) (heard u v : Bits) → Nearest p q heard u → Nearest p q heard v → (k : ℕ) → k < p * q → u k ≡ v k
@@ -97,8 +94,7 @@ ones_none zero a h = refl
 ones_none (suc n) a h = let i = ones_none n a (λ k l. h k (omega arith)) in let d = ap digit (h n (omega arith)) in omega arith
 
 none_of : (b : Bool) → digit b ≡ 0 → b ≡ false
-none_of true e = absurd (omega arith)
-none_of false e = refl
+none_of b e = sym (digit_eqb b) ∙ ap (λ (z : ℕ). eqb z 1) e
 
 none_ones : (n : ℕ) (a : Bits) → ones n a ≡ 0 → (k : ℕ) → k < n → a k ≡ false
 unfolding ones

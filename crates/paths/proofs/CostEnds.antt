@@ -4,8 +4,9 @@ use Rattle.std.proofs.Common.{◌≡◌, ℕ, ◌<◌, false, ◌≢◌, List, g
 use Rattle.std.proofs.lemmas.Bool.{cases_order}
 use Rattle.paths.specs.Model.{Model, Lawful, after}
 use Rattle.paths.specs.Answers.{LeastCost, Unreachable}
-use Rattle.paths.proofs.Rows.{Least}
-use Rattle.paths.proofs.Pushed.{Leasts, EndCost}
+use Rattle.std.specs.Option.{option_map}
+use Rattle.paths.proofs.Rows.{Least, End}
+use Rattle.paths.proofs.Pushed.{Leasts}
 use Rattle.paths.proofs.Paths.{some_inj, after_within, after_cost}
 
 start_at : (m : Model) (x : ℕ) → x ≡ 0 → Least m 0 m.start x
@@ -39,7 +40,7 @@ abbrev pub Costed : Model → Option ℕ → Type 0
 Costed m None = Unreachable m
 Costed m (Some x) = LeastCost m x
 
-pub costed : (m : Model) → Lawful m → (row : List ℕ) → Leasts m m.stages row → (r : Option ℕ) → EndCost m row r → Costed m r
+pub costed : (m : Model) → Lawful m → (row : List ℕ) → Leasts m m.stages row → (r : Option ℕ) → End m row m.states r → Costed m (option_map (λ t. get_or row t 0) r)
 costed m law row rows None none = λ v c a.
     let stages = law.few_stages in
     let w = after_within m law v m.stages a.end c (omega arith) a.stands in
@@ -47,13 +48,11 @@ costed m law row rows None none = λ v c a.
     let no = none a.end w a.ends in
     let cheap = after_cost m law v m.stages a.end c (omega arith) a.stands in
     omega arith
-costed m law row rows (Some x) ch =
-    let cost = ch.cost in
-    let reached = ch.reached in
-    let got = (rows.at ch.end ch.within).met (omega arith) in
+costed m law row rows (Some t) ch =
+    let got = (rows.at t ch.within).met ch.reached in
     record {
       path = got.0;
-      arrives = record { end = ch.end; ends = ch.ends; stands = got.1 ∙ ap (λ n. Some (ch.end, n)) (sym cost) };
+      arrives = record { end = t; ends = ch.ends; stands = got.1 };
       least = λ v c a.
           let w = after_within m law v m.stages a.end c (omega arith) a.stands in
           let low = (rows.at a.end w).lower v c a.stands in

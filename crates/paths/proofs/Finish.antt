@@ -57,7 +57,7 @@ first_same m w u v n e (lower_state k l x f) =
     lower_state k l (let p = ap state_of (after_same m w u k (λ i z. e i (omega arith))) in omega arith)
     (λ j g h. ap state_of (after_same m w u j (λ i z. e i (omega arith))) ∙ f j g h)
 
-pub unreachable : (m : Model) → Lawful m → m.wanted ≡ true → (work row : List ℕ) → Reached m work m.stages row → End m row None → Unreachable m
+pub unreachable : (m : Model) → Lawful m → m.wanted ≡ true → (work row : List ℕ) → Reached m work m.stages row → End m row m.states None → Unreachable m
 unreachable m law on work row r none v c a =
     let few = law.wanted_few on in
     let stages = law.few_stages in
@@ -67,7 +67,7 @@ unreachable m law on work row r none v c a =
     let cheap = after_cost m law v m.stages a.end c (omega arith) a.stands in
     omega arith
 
-pub first_path : (m : Model) → Lawful m → m.wanted ≡ true → (work row : List ℕ) (bits : List Bool) (t : ℕ) → Reached m work m.stages row → Chosen m row t → ((j : ℕ) → j < m.stages → get_or bits j false ≡ trace m work m.stages t j) → FirstPath m (get_or row t 0) (path_of bits)
+pub first_path : (m : Model) → Lawful m → m.wanted ≡ true → (work row : List ℕ) (bits : List Bool) (t : ℕ) → Reached m work m.stages row → Chosen m row m.states t → ((j : ℕ) → j < m.stages → get_or bits j false ≡ trace m work m.stages t j) → FirstPath m (get_or row t 0) (path_of bits)
 first_path m law on work row bits t r ch agree =
     let few = law.wanted_few on in
     let in64 = ch.within in
@@ -119,11 +119,8 @@ reached_same m work k row other h r = record {
 pub by_true : (b : Bool) (P Q : Type 0) → b ≡ true → P → By b P Q
 by_true b P Q e h = subst (λ z. By z P Q) (sym e) h
 
-pub by_false : (b : Bool) (P Q : Type 0) → b ≡ false → Q → By b P Q
-by_false b P Q e h = subst (λ z. By z P Q) (sym e) h
-
-pub found_none : (m : Model) → Lawful m → m.wanted ≡ true → (work row : List ℕ) (path : List Bool) → Reached m work m.stages row → End m row None → Found m path path None
+pub found_none : (m : Model) → Lawful m → m.wanted ≡ true → (work row : List ℕ) (path : List Bool) → Reached m work m.stages row → End m row m.states None → Found m path path None
 found_none m law on work row path r none = (unreachable m law on work row r none, refl)
 
-pub found_path : (m : Model) → Lawful m → m.wanted ≡ true → (work row : List ℕ) (old new : List Bool) (t : ℕ) → Reached m work m.stages row → Chosen m row t → ((j : ℕ) → j < m.stages → get_or new j false ≡ trace m work m.stages t j) → Kept m.stages old new → Found m old new (Some (get_or row t 0))
+pub found_path : (m : Model) → Lawful m → m.wanted ≡ true → (work row : List ℕ) (old new : List Bool) (t : ℕ) → Reached m work m.stages row → Chosen m row m.states t → ((j : ℕ) → j < m.stages → get_or new j false ≡ trace m work m.stages t j) → Kept m.stages old new → Found m old new (Some (get_or row t 0))
 found_path m law on work row old new t r ch agree kept = by_true m.wanted _ _ on (first_path m law on work row new t r ch agree, kept)

@@ -10,7 +10,8 @@ use mir.Val.{bits, hbits}
 use Rattle.std.proofs.lemmas.Bool.{cases_lt}
 use Rattle.std.proofs.lemmas.List.{get_or_append_left, get_or-append_right, get_or-take, get_or-drop, length-take-le}
 use Rattle.std.proofs.lemmas.Simd.{length-chunk, get_or-chunk, tops_compared, length-zip2, get_or-zip2, length-sel_l, get_or-sel_l, get_or-replicate, put_chunk_whole, mask_l-lt, mask_l-mod, bit_mask_l}
-use Rattle.paths.proofs.Lanes.{Lanes, Marks, Costs, capped_min}
+use Rattle.paths.proofs.Lanes.{Lanes, Chunk, Marks, Picks, Costs, capped_min}
+use Rattle.paths.proofs.Rows.{Selected}
 
 -- ---- of either width
 abbrev less : Width → ℕ → ℕ → ℕ
@@ -156,8 +157,11 @@ mask_l_append (x ∷ xs) ys =
     let q : mask_l ys * 2 ^ suc (length xs) ≡ 2 * (mask_l ys * 2 ^ length xs) = ap (λ z. mask_l ys * z) p ∙ (sym (mul_assoc (mask_l ys) 2 (2 ^ length xs)) ∙ (ap (λ z. z * 2 ^ length xs) (mul_comm (mask_l ys) 2) ∙ mul_assoc 2 (mask_l ys) (2 ^ length xs))) in
     omega arith
 
-pub marks_more : (a b : List ℕ) (word mask at : ℕ) → at + 16 ≤ 64 → Marks a b word 0 at → Marks a b mask at 16 → Marks a b (bit_or word ((mask * 2 ^ at) % 2 ^ 64)) 0 (at + 16)
-marks_more a b word mask at h (ms, lm, em, gm) (ns, ln, en, gn) =
+pub picks_more : (a b old new : List ℕ) (word mask at : ℕ) → at + 16 ≤ 64 → Picks a b old word 0 at → Chunk a b old new mask at → Picks a b new (bit_or word ((mask * 2 ^ at) % 2 ^ 64)) 0 (at + 16)
+picks_more a b old new word mask at h (ms, lm, em, gm) more =
+    let ns = more.picks.0 in
+    let ln = more.picks.1 in
+    let en = more.picks.2 in
     let both : length (ms ++ ns) ≡ at + 16 = length-append ms ns ∙ omega arith in
     let sum : mask_l (ms ++ ns) ≡ mask * 2 ^ at + word = mask_l_append ms ns ∙ (ap (λ z. mask_l ns * 2 ^ z + mask_l ms) lm ∙ ap (λ z. z * 2 ^ at + mask_l ms) (sym en) ∙ ap (λ z. mask * 2 ^ at + z) (sym em)) in
     let low : word < 2 ^ at = subst (λ z. word < 2 ^ z) lm (subst (λ z. z < 2 ^ length ms) (sym em) (mask_l-lt ms)) in
@@ -167,18 +171,26 @@ marks_more a b word mask at h (ms, lm, em, gm) (ns, ln, en, gn) =
       ms ++ ns,
       both,
       whole,
-      λ j l. ⊎_elim
-          (λ x. get_or_append_left ms ns false j (omega arith) ∙ gm j x)
-          (λ x. get_or-append_right ms ns at j false lm x ∙ (gn (j - at) (omega arith) ∙ ap (λ n. ltb (get_or b n 0) (get_or a n 0)) (omega arith)))
+      λ j l came. ⊎_elim
+          (λ x. get_or_append_left ms ns false j (omega arith) ∙ gm j x (let e = more.below (0 + j) (omega arith) in omega arith))
+          (λ x.
+          let same : at + (j - at) ≡ 0 + j = omega arith in
+          get_or-append_right ms ns at j false lm x
+          ∙ (more.picks.3 (j - at) (omega arith) (subst (λ n. get_or new n 0 < 536870912) (sym same) came)
+          ∙ ap (λ n. ltb (get_or b n 0) (get_or a n 0)) same))
           (cases_lt j at),
     )
 
-pub costs_more : (less : ℕ → ℕ → ℕ) (a b old new : List ℕ) (mask at : ℕ) → Lanes less a b old new mask at → Costs less a b old at → Costs less a b new (at + 16)
-costs_more less a b old new mask at l c t h =
+pub costs_more : (a b old new : List ℕ) (mask at : ℕ) → Chunk a b old new mask at → Costs a b old at → Costs a b new (at + 16)
+costs_more a b old new mask at l c t h =
     ⊎_elim
     (λ x. l.below t x ∙ c t x)
-    (λ x. let e : at + (t - at) ≡ t = omega arith in subst (λ n. get_or new n 0 ≡ less (get_or a n 0) (get_or b n 0)) e (l.costs (t - at) (omega arith)))
+    (λ x. let e : at + (t - at) ≡ t = omega arith in subst (λ n. get_or new n 0 ≡ capped_min (get_or a n 0) (get_or b n 0)) e (l.costs (t - at) (omega arith)))
     (cases_lt t at)
 
-pub marked : (a b : List ℕ) (word : ℕ) → Marks a b word 0 64 → (t : ℕ) → t < 64 → word / 2 ^ t % 2 ≡ cond (ltb (get_or b t 0) (get_or a t 0)) 1 0
-marked a b word (ms, lm, em, gm) t h = ap (λ z. z / 2 ^ t % 2) em ∙ (bit_mask_l ms t ∙ (ap (λ z. cond z 1 0) (gm t h) ∙ ap (λ n. cond (ltb (get_or b n 0) (get_or a n 0)) 1 0) (omega arith)))
+-- ---- all sixty-four lanes
+pub selected : (a b next : List ℕ) (word n : ℕ) → n ≡ 64 → Costs a b next n → Picks a b next word 0 n → Selected a b next word
+selected a b next word n is costs (ms, lm, em, gm) = record {
+  costs = λ t h. costs t (omega arith);
+  choice = λ t h came. ap (λ z. z / 2 ^ t % 2) em ∙ (bit_mask_l ms t ∙ ap (λ z. cond z 1 0) (gm t (omega arith) (subst (λ n. get_or next n 0 < 536870912) (omega arith) came) ∙ ap (λ n. ltb (get_or b n 0) (get_or a n 0)) (omega arith)));
+}

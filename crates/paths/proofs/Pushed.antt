@@ -1,6 +1,6 @@
 -- Rows of costs where no path is wanted: one stage, branch by branch, and the last row.
 -- Assumes nothing.
-use Rattle.std.proofs.Common.{◌≡◌, ℕ, ◌+◌, ◌*◌, ◌<◌, ◌≤◌, Bool, true, cond, List, get_or, Some, None, Option}
+use Rattle.std.proofs.Common.{◌≡◌, ℕ, ◌+◌, ◌*◌, ◌<◌, ◌≤◌, Bool, cond, List, get_or, Some}
 use Rattle.paths.specs.Model.{Model}
 use Rattle.paths.proofs.Rows.{Least}
 
@@ -26,22 +26,3 @@ pub record Partly (m : Model) (k : ℕ) (row next : List ℕ) (i : ℕ) : Type 0
 -- the row has the least costs of k stages
 pub record Leasts (m : Model) (k : ℕ) (row : List ℕ) : Type 0 where
   pub at : (t : ℕ) → t < m.states → Least m k t (get_or row t 0)
-
--- the cheapest end of a row
-pub record CheapestEnd (m : Model) (row : List ℕ) (x : ℕ) : Type 0 where
-  pub end : ℕ
-  pub within : end < m.states
-  pub ends : m.ends end ≡ true
-  pub cost : x ≡ get_or row end 0
-  pub reached : x < 536870912
-  pub least : (u : ℕ) → u < m.states → m.ends u ≡ true → x ≤ get_or row u 0
-
-abbrev pub EndCost : Model → List ℕ → Option ℕ → Type 0
-EndCost m row None = (u : ℕ) → u < m.states → m.ends u ≡ true → 536870912 ≤ get_or row u 0
-EndCost m row (Some x) = CheapestEnd m row x
-
--- the same of the states below n
-pub record CheapestSofar (m : Model) (row : List ℕ) (n best at : ℕ) : Type 0 where
-  pub capped : best ≤ 536870912
-  pub kept : best < 536870912 → (at < n) × (m.ends at ≡ true) × (best ≡ get_or row at 0)
-  pub least : (u : ℕ) → u < n → m.ends u ≡ true → best ≤ get_or row u 0

@@ -1,26 +1,10 @@
 -- Branches followed one by one, where no path is wanted.
 -- Assumes nothing.
-use Rattle.std.proofs.Common.{◌≡◌, ℕ, zero, suc, ◌+◌, ◌*◌, ◌<◌, ◌≤◌, min, Bool, true, false, ◌≢◌, List, [], ◌∷◌, length, get_or, set, Some, None, Option, sym, refl, ap, ◌∙◌, subst, ⊎_elim, eq-or-lt_of_le, add-one, arith, get_or-set_other, get_or-set_same}
+use Rattle.std.proofs.Common.{◌≡◌, ℕ, zero, suc, ◌+◌, ◌*◌, ◌<◌, ◌≤◌, min, Bool, true, false, ◌≢◌, List, [], ◌∷◌, length, get_or, set, Some, Option, sym, refl, ap, ◌∙◌, subst, ⊎_elim, eq-or-lt_of_le, add-one, arith, get_or-set_other, get_or-set_same}
 use Rattle.std.proofs.lemmas.Bool.{cases_order, cases_lt}
 use Rattle.paths.specs.Model.{Model, Lawful}
-use Rattle.paths.specs.Replies.{Leads}
 use Rattle.paths.proofs.Pushed.{turn, Source, Partly, Leasts}
 use Rattle.paths.proofs.Paths.{upd, some_inj, Came, came, after_on, after_within}
-
-leads_some : (n : ℕ) (o : Option (ℕ × ℕ)) (to pay : ℕ) (t c : ℕ) → Leads n o to pay → o ≡ Some (t, c) → (to ≡ t) × (pay ≡ c)
-leads_some n None to pay t c h e = let z : ◌≡◌ {A = ℕ} 0 1 = cc in absurd (omega arith)
-leads_some n (Some p) to pay t c h e = let q = some_inj p (t, c) e in (h.0 ∙ ap (λ z. z.0) q, h.1 ∙ ap (λ z. z.1) q)
-
-leads_open : (n : ℕ) (o : Option (ℕ × ℕ)) (to pay : ℕ) → Leads n o to pay → pay < 536870912 → o ≡ Some (to, pay)
-leads_open n None to pay h l = absurd (omega arith)
-leads_open n (Some p) to pay h l = ap (λ x. Some (x, p.1)) (sym h.0) ∙ ap (λ x. Some (to, x)) (sym h.1)
-
-within_by : (m : Model) → Lawful m → (k s : ℕ) (b : Bool) (to pay : ℕ) → k < m.stages → s < m.states → (o : Option (ℕ × ℕ)) → m.branch k s b ≡ o → Leads m.states o to pay → (to < m.states) × (pay ≤ 536870912)
-within_by m law k s b to pay early few None e h = (omega arith, omega arith)
-within_by m law k s b to pay early few (Some p) e h = let w = law.bounded k s b p.0 p.1 early few e in (omega arith, omega arith)
-
-pub branch_within : (m : Model) → Lawful m → (k s : ℕ) (b : Bool) (to pay : ℕ) → k < m.stages → s < m.states → Leads m.states (m.branch k s b) to pay → (to < m.states) × (pay ≤ 536870912)
-branch_within m law k s b to pay early few h = within_by m law k s b to pay early few (m.branch k s b) refl h
 
 turn_inj : (s s' : ℕ) (b b' : Bool) → turn s' b' ≡ turn s b → (s' ≡ s) × (b' ≡ b)
 turn_inj s s' true true e = (omega arith, refl)
@@ -29,21 +13,28 @@ turn_inj s s' true false e = absurd (omega arith)
 turn_inj s s' false true e = absurd (omega arith)
 
 -- the branch at hand, or one before it
-lower_more : (m : Model) (k : ℕ) (row next : List ℕ) (s : ℕ) (b : Bool) (to pay : ℕ) → Leads m.states (m.branch k s b) to pay → get_or next to 0 ≤ get_or row s 0 + pay → ((s' : ℕ) (b' : Bool) (t c : ℕ) → turn s' b' < turn s b → m.branch k s' b' ≡ Some (t, c) → get_or next t 0 ≤ get_or row s' 0 + c) → (s' : ℕ) (b' : Bool) (t c : ℕ) → turn s' b' < turn s b + 1 → m.branch k s' b' ≡ Some (t, c) → get_or next t 0 ≤ get_or row s' 0 + c
-lower_more m k row next s b to pay st le old s' b' t c h e =
+lower_more : (m : Model) (k : ℕ) (row next : List ℕ) (s : ℕ) (b : Bool) → ((t c : ℕ) → m.branch k s b ≡ Some (t, c) → get_or next t 0 ≤ get_or row s 0 + c) → ((s' : ℕ) (b' : Bool) (t c : ℕ) → turn s' b' < turn s b → m.branch k s' b' ≡ Some (t, c) → get_or next t 0 ≤ get_or row s' 0 + c) → (s' : ℕ) (b' : Bool) (t c : ℕ) → turn s' b' < turn s b + 1 → m.branch k s' b' ≡ Some (t, c) → get_or next t 0 ≤ get_or row s' 0 + c
+lower_more m k row next s b here old s' b' t c h e =
     ⊎_elim
     (λ q.
     let i = turn_inj s s' b b' q in
     let e' : m.branch k s b ≡ Some (t, c) = sym (ap (λ n. m.branch k n b) i.0) ∙ (sym (ap (λ z. m.branch k s' z) i.1) ∙ e) in
-    let x = leads_some m.states (m.branch k s b) to pay t c st e' in
-    let a : get_or next to 0 ≡ get_or next t 0 = ap (λ n. get_or next n 0) x.0 in
     let d : get_or row s' 0 ≡ get_or row s 0 = ap (λ n. get_or row n 0) i.0 in
+    let l = here t c e' in
     omega arith)
     (λ l. old s' b' t c l e)
     (eq-or-lt_of_le {n = turn s' b'} {m = turn s b} (omega arith))
 
-kept : (m : Model) (k : ℕ) (row next : List ℕ) (s : ℕ) (b : Bool) (to pay : ℕ) → Leads m.states (m.branch k s b) to pay → get_or next to 0 ≤ get_or row s 0 + pay → Partly m k row next (turn s b) → Partly m k row next (turn s b + 1)
-kept m k row next s b to pay st le p = record { lower = lower_more m k row next s b to pay st le p.lower; met = p.met; capped = p.capped }
+-- an open branch has one end and one cost
+one_branch : (next : List ℕ) (x to pay : ℕ) (o : Option (ℕ × ℕ)) → o ≡ Some (to, pay) → get_or next to 0 ≤ x + pay → (t c : ℕ) → o ≡ Some (t, c) → get_or next t 0 ≤ x + c
+one_branch next x to pay o opens le t c e =
+    let q = some_inj (to, pay) (t, c) (sym opens ∙ e) in
+    let a : get_or next to 0 ≡ get_or next t 0 = ap (λ z. get_or next z.0 0) q in
+    let d : pay ≡ c = ap (λ z. z.1) q in
+    omega arith
+
+kept : (m : Model) (k : ℕ) (row next : List ℕ) (s : ℕ) (b : Bool) → ((t c : ℕ) → m.branch k s b ≡ Some (t, c) → get_or next t 0 ≤ get_or row s 0 + c) → Partly m k row next (turn s b) → Partly m k row next (turn s b + 1)
+kept m k row next s b here p = record { lower = lower_more m k row next s b here p.lower; met = p.met; capped = p.capped }
 
 set_le : (next : List ℕ) (t x u : ℕ) → t < length next → x ≤ get_or next t 0 → get_or (set next t x) u 0 ≤ get_or next u 0
 set_le next t x u lt le =
@@ -52,16 +43,15 @@ set_le next t x u lt le =
     (λ d. let ne : u ≢ t = ⊎_elim (λ l q. omega arith) (λ l q. omega arith) d in let q = get_or-set_other next t u x 0 ne in omega arith)
     (cases_order u t)
 
-pushed : (m : Model) → Lawful m → (k : ℕ) (row next : List ℕ) (s : ℕ) (b : Bool) (to pay : ℕ) → k < m.stages → s < m.states → to < length next → Leads m.states (m.branch k s b) to pay → get_or row s 0 + pay < get_or next to 0 → Partly m k row next (turn s b) → Partly m k row (set next to (get_or row s 0 + pay)) (turn s b + 1)
-pushed m law k row next s b to pay early few lt st less p =
+pushed : (m : Model) → Lawful m → (k : ℕ) (row next : List ℕ) (s : ℕ) (b : Bool) (to pay : ℕ) → k < m.stages → s < m.states → to < length next → m.branch k s b ≡ Some (to, pay) → get_or row s 0 + pay < get_or next to 0 → Partly m k row next (turn s b) → Partly m k row (set next to (get_or row s 0 + pay)) (turn s b + 1)
+pushed m law k row next s b to pay early few lt opens less p =
     let x = get_or row s 0 + pay in
-    let w = branch_within m law k s b to pay early few st in
+    let w = law.bounded k s b to pay early few opens in
     let cap = p.capped to w.0 in
     let here : get_or (set next to x) to 0 ≡ x = get_or-set_same next to x 0 lt in
-    let opens : m.branch k s b ≡ Some (to, pay) = leads_open m.states (m.branch k s b) to pay st (omega arith) in
     let all : (u : ℕ) → get_or (set next to x) u 0 ≤ get_or next u 0 = λ u. set_le next to x u lt (omega arith) in
     record {
-      lower = lower_more m k row (set next to x) s b to pay st (omega arith) (λ s' b' t c h e. let o = p.lower s' b' t c h e in let a = all t in omega arith);
+      lower = lower_more m k row (set next to x) s b (one_branch (set next to x) (get_or row s 0) to pay (m.branch k s b) opens (omega arith)) (λ s' b' t c h e. let o = p.lower s' b' t c h e in let a = all t in omega arith);
       met = λ t h l.
           ⊎_elim
           (λ e. record { s = s; b = b; c = pay; within = few; branch = opens ∙ ap (λ n. Some (n, pay)) (sym e); sum = ap (λ n. get_or (set next to x) n 0) e ∙ here })
@@ -79,13 +69,13 @@ set_own (x ∷ next) zero = refl
 set_own (x ∷ next) (suc t) = ap (λ z. x ∷ z) (set_own next t)
 
 -- the less of the two is kept
-pub lowered : (m : Model) → Lawful m → (k : ℕ) (row next : List ℕ) (s : ℕ) (b : Bool) (to pay : ℕ) (x : ℕ) → x ≡ min (get_or next to 0) (get_or row s 0 + pay) → k < m.stages → s < m.states → to < length next → Leads m.states (m.branch k s b) to pay → Partly m k row next (turn s b) → Partly m k row (set next to x) (turn s b + 1)
-lowered m law k row next s b to pay x is early few lt st p =
+pub lowered : (m : Model) → Lawful m → (k : ℕ) (row next : List ℕ) (s : ℕ) (b : Bool) (to pay : ℕ) (x : ℕ) → x ≡ min (get_or next to 0) (get_or row s 0 + pay) → k < m.stages → s < m.states → to < length next → Some (to, pay) ≡ m.branch k s b → Partly m k row next (turn s b) → Partly m k row (set next to x) (turn s b + 1)
+lowered m law k row next s b to pay x is early few lt opens p =
     ⊎_elim
-    (λ l. subst (λ n. Partly m k row (set next to n) (turn s b + 1)) (omega arith) (pushed m law k row next s b to pay early few lt st l p))
+    (λ l. subst (λ n. Partly m k row (set next to n) (turn s b + 1)) (omega arith) (pushed m law k row next s b to pay early few lt (sym opens) l p))
     (λ l.
     let e : get_or next to 0 ≡ x = omega arith in
-    subst (λ z. Partly m k row z (turn s b + 1)) (sym (set_own next to) ∙ ap (λ n. set next to n) e) (kept m k row next s b to pay st l p))
+    subst (λ z. Partly m k row z (turn s b + 1)) (sym (set_own next to) ∙ ap (λ n. set next to n) e) (kept m k row next s b (one_branch next (get_or row s 0) to pay (m.branch k s b) (sym opens) l) p))
     (cases_lt (get_or row s 0 + pay) (get_or next to 0))
 
 -- nothing leads on from a state that is not reached

@@ -1,10 +1,9 @@
 -- The trellis of a shift register keeps the laws.
 -- Assumes nothing.
-use Rattle.std.proofs.Common.{◌≡◌, ℕ, suc, ◌+◌, ◌*◌, ◌/◌, ◌%◌, ◌<◌, ◌≤◌, Bool, true, false, eqb, ltb, ◌⊎◌, Some, sym, refl, ap, ◌∙◌, subst, inl, inr, ⊎_elim, arith, ltb-false, ltb-true, eq-eqb, ne_eqb, eqb-true}
+use Rattle.std.proofs.Common.{◌≡◌, ℕ, suc, ◌+◌, ◌*◌, ◌/◌, ◌%◌, ◌<◌, ◌≤◌, Bool, true, false, eqb, ltb, ◌⊎◌, Some, None, Option, sym, refl, ap, ◌∙◌, subst, inl, inr, ⊎_elim, arith, ltb-false, ltb-true, eq-eqb, ne_eqb, eqb-true}
 use borrow.Author.Tests.{eqb-false}
 use Rattle.std.proofs.lemmas.Bool.{cases_lt}
 use Rattle.paths.specs.Model.{Model, Lawful}
-use Rattle.paths.specs.Replies.{Enters, Leads}
 use Rattle.paths.specs.Registers.{open_if, digit, register}
 use Rattle.paths.proofs.Paths.{cheap_by}
 
@@ -32,19 +31,19 @@ odd_digit t = by (eqb (t % 2) 1) refl
     by false e = let n = eqb-false (t % 2) 1 e in omega arith
 
 -- ---- its replies
-pub register_leads : (k s : ℕ) (b : Bool) (cost : ℕ → ℕ → ℕ) (to pay : ℕ) → to ≡ (2 * s + digit b) % 64 → (cost k (2 * s + digit b) < 256 → pay ≡ cost k (2 * s + digit b)) → (256 ≤ cost k (2 * s + digit b) → pay ≡ 536870912) → Leads 64 (open_if (ltb (cost k (2 * s + digit b)) 256) ((2 * s + digit b) % 64, cost k (2 * s + digit b))) to pay
-register_leads k s b cost to pay e f g = by (ltb (cost k (2 * s + digit b)) 256) refl
+pub register_leads : (k s : ℕ) (b : Bool) (cost : ℕ → ℕ → ℕ) (reply : Option (ℕ × ℕ)) → (cost k (2 * s + digit b) < 256 → reply ≡ Some ((2 * s + digit b) % 64, cost k (2 * s + digit b))) → (256 ≤ cost k (2 * s + digit b) → reply ≡ None) → reply ≡ open_if (ltb (cost k (2 * s + digit b)) 256) ((2 * s + digit b) % 64, cost k (2 * s + digit b))
+register_leads k s b cost reply f g = by (ltb (cost k (2 * s + digit b)) 256) refl
   where
-    by : (o : Bool) → ltb (cost k (2 * s + digit b)) 256 ≡ o → Leads 64 (open_if o ((2 * s + digit b) % 64, cost k (2 * s + digit b))) to pay
-    by true q = (e, f (ltb-true _ _ q))
-    by false q = (omega arith, g (ltb-false _ _ q))
+    by : (o : Bool) → ltb (cost k (2 * s + digit b)) 256 ≡ o → reply ≡ open_if o ((2 * s + digit b) % 64, cost k (2 * s + digit b))
+    by true q = f (ltb-true _ _ q)
+    by false q = g (ltb-false _ _ q)
 
-pub register_enters : (k t : ℕ) (i : Bool) (cost : ℕ → ℕ → ℕ) (from : ℕ) (bit : Bool) (pay : ℕ) → t < 64 → from ≡ t / 2 + 32 * digit i → bit ≡ eqb (t % 2) 1 → (cost k (t + 64 * digit i) < 256 → pay ≡ cost k (t + 64 * digit i)) → (256 ≤ cost k (t + 64 * digit i) → pay ≡ 65535) → Enters 64 (open_if (ltb (cost k (t + 64 * digit i)) 256) (t / 2 + 32 * digit i, eqb (t % 2) 1, cost k (t + 64 * digit i))) from bit pay
-register_enters k t i cost from bit pay low e b f g = by (ltb (cost k (t + 64 * digit i)) 256) refl
+pub register_enters : (k t : ℕ) (i : Bool) (cost : ℕ → ℕ → ℕ) (reply : Option (ℕ × Bool × ℕ)) → (cost k (t + 64 * digit i) < 256 → reply ≡ Some (t / 2 + 32 * digit i, eqb (t % 2) 1, cost k (t + 64 * digit i))) → (256 ≤ cost k (t + 64 * digit i) → reply ≡ None) → reply ≡ open_if (ltb (cost k (t + 64 * digit i)) 256) (t / 2 + 32 * digit i, eqb (t % 2) 1, cost k (t + 64 * digit i))
+register_enters k t i cost reply f g = by (ltb (cost k (t + 64 * digit i)) 256) refl
   where
-    by : (o : Bool) → ltb (cost k (t + 64 * digit i)) 256 ≡ o → Enters 64 (open_if o (t / 2 + 32 * digit i, eqb (t % 2) 1, cost k (t + 64 * digit i))) from bit pay
-    by true q = (e, b, f (ltb-true _ _ q))
-    by false q = let d = digit_low i in (omega arith, g (ltb-false _ _ q))
+    by : (o : Bool) → ltb (cost k (t + 64 * digit i)) 256 ≡ o → reply ≡ open_if o (t / 2 + 32 * digit i, eqb (t % 2) 1, cost k (t + 64 * digit i))
+    by true q = f (ltb-true _ _ q)
+    by false q = g (ltb-false _ _ q)
 
 -- ---- its laws
 module _ (n : ℕ) (ends : ℕ → Bool) (narrow : Bool) (cost : ℕ → ℕ → ℕ) where

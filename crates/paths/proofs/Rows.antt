@@ -93,21 +93,19 @@ pub record Reached (m : Model) (work : List ℕ) (k : ℕ) (row : List ℕ) : Ty
   pub trail : (t : ℕ) → t < 64 → get_or row t 0 < 536870912 → Trail m work k t
 
 -- ---- the end that is taken of the last row
--- the cheapest end, and of several the lowest
-pub record Chosen (m : Model) (row : List ℕ) (t : ℕ) : Type 0 where
-  pub within : t < m.states
+-- of the states below n the cheapest end, and of several the lowest
+pub record Chosen (m : Model) (row : List ℕ) (n t : ℕ) : Type 0 where
+  pub within : t < n
   pub ends : m.ends t ≡ true
   pub reached : get_or row t 0 < 536870912
-  pub least : (u : ℕ) → u < m.states → m.ends u ≡ true → get_or row t 0 ≤ get_or row u 0
-  pub lowest : (u : ℕ) → u < m.states → m.ends u ≡ true → get_or row t 0 ≡ get_or row u 0 → t ≤ u
+  pub least : (u : ℕ) → u < n → m.ends u ≡ true → get_or row t 0 ≤ get_or row u 0
+  pub lowest : (u : ℕ) → u < n → m.ends u ≡ true → get_or row t 0 ≡ get_or row u 0 → t ≤ u
 
-abbrev pub End : Model → List ℕ → Option ℕ → Type 0
-End m row None = (u : ℕ) → u < m.states → m.ends u ≡ true → 536870912 ≤ get_or row u 0
-End m row (Some t) = Chosen m row t
+abbrev pub End : Model → List ℕ → ℕ → Option ℕ → Type 0
+End m row n None = (u : ℕ) → u < n → m.ends u ≡ true → 536870912 ≤ get_or row u 0
+End m row n (Some t) = Chosen m row n t
 
--- the same of the states below n: `best` and `at` are the cheapest so far
-pub record Sofar (m : Model) (row : List ℕ) (n best at : ℕ) : Type 0 where
-  pub capped : best ≤ 536870912
-  pub kept : best < 536870912 → (at < n) × (m.ends at ≡ true) × (best ≡ get_or row at 0)
-  pub least : (u : ℕ) → u < n → m.ends u ≡ true → best ≤ get_or row u 0
-  pub lowest : (u : ℕ) → u < n → m.ends u ≡ true → best ≡ get_or row u 0 → best < 536870912 → at ≤ u
+-- what an end costs
+abbrev pub end_cost : List ℕ → Option ℕ → ℕ
+end_cost row None = 536870912
+end_cost row (Some t) = get_or row t 0

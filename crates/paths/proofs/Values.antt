@@ -1,10 +1,10 @@
 -- Rows of lanes as rows of costs.
 -- Assumes nothing.
-use Rattle.std.proofs.Common.{◌≡◌, ℕ, zero, suc, ◌+◌, ◌*◌, ◌/◌, ◌<◌, ◌≤◌, min, Bool, true, false, cond, ltb, ◌≢◌, List, [], ◌∷◌, length, get_or, set, sym, refl, ap, ◌∙◌, subst, ⊎_elim, eq-or-lt_of_le, arith, length-set, le-ltb, lt-ltb}
+use Rattle.std.proofs.Common.{◌≡◌, ℕ, zero, suc, ◌+◌, ◌*◌, ◌<◌, ◌≤◌, min, Bool, true, false, cond, ltb, ◌≢◌, List, [], ◌∷◌, length, get_or, set, sym, refl, ap, ◌∙◌, subst, ⊎_elim, eq-or-lt_of_le, arith, length-set, le-ltb, lt-ltb}
 use Rattle.std.proofs.lemmas.Bool.{cases_lt}
 use Rattle.paths.specs.Model.{Model}
 use Rattle.paths.proofs.Rows.{into, via, Alike, Candidates, Selected, Relaxed}
-use Rattle.paths.proofs.Lanes.{wide, values, capped_min, AllLanes}
+use Rattle.paths.proofs.Lanes.{wide, values, capped_min, Lanes, Chunk}
 
 pub wide_low : (x : ℕ) → x < 65535 → wide x ≡ x
 wide_low x h = ap (λ z. cond z x 536870912) (lt-ltb x 65535 h)
@@ -18,14 +18,6 @@ wide_capped x =
     (λ l. let e = wide_low x l in omega arith)
     (λ l. let e = wide_top x l in omega arith)
     (cases_lt x 65535)
-
--- a closed cost by its high byte
-pub wide_high : (x c : ℕ) → c ≤ 65535 → (c < 65535 → c ≤ 255) → Alike (x + c + c / 256 * 4194304) (x + wide c)
-wide_high x c fits small =
-    ⊎_elim
-    (λ l. let e = wide_low c l in let s = small l in omega arith)
-    (λ l. let e = wide_top c l in omega arith)
-    (cases_lt c 65535)
 
 pub wide_min : (x y : ℕ) → wide (min x y) ≡ min (wide x) (wide y)
 wide_min x y =
@@ -91,32 +83,39 @@ get_or_values0 up z (x ∷ xs) (suc i) = get_or_values0 up z xs i
 same2 : (f : ℕ → ℕ → Bool) (x y u v : ℕ) → x ≡ u → y ≡ v → f x y ≡ f u v
 same2 f x y u v p q = ap (λ z. f z y) p ∙ ap (λ z. f u z) q
 
-pub narrow_selected : (a b next : List ℕ) (word : ℕ) → AllLanes min a b next word → Selected (values wide a) (values wide b) (values wide next) word
-narrow_selected a b next word s = record {
-  costs = λ t h.
-      let g = get_or_values0 wide refl next t in
-      let x = get_or_values0 wide refl a t in
-      let y = get_or_values0 wide refl b t in
-      let c : wide (get_or next t 0) ≡ wide (min (get_or a t 0) (get_or b t 0)) = ap wide (s.costs t h) in
-      let w = wide_min (get_or a t 0) (get_or b t 0) in
-      let p = wide_capped (get_or a t 0) in
-      let q = wide_capped (get_or b t 0) in
+pub narrow_chunk : (a b old new : List ℕ) (mask at : ℕ) → Lanes min a b old new mask at → Chunk (values wide a) (values wide b) (values wide old) (values wide new) mask at
+narrow_chunk a b old new mask at s = record {
+  costs = λ j h.
+      let g = get_or_values0 wide refl new (at + j) in
+      let x = get_or_values0 wide refl a (at + j) in
+      let y = get_or_values0 wide refl b (at + j) in
+      let c : wide (get_or new (at + j) 0) ≡ wide (min (get_or a (at + j) 0) (get_or b (at + j) 0)) = ap wide (s.costs j h) in
+      let w = wide_min (get_or a (at + j) 0) (get_or b (at + j) 0) in
+      let p = wide_capped (get_or a (at + j) 0) in
+      let q = wide_capped (get_or b (at + j) 0) in
       omega arith;
-  choice = λ t h lt.
-      let g = get_or_values0 wide refl next t in
-      let c : wide (get_or next t 0) ≡ wide (min (get_or a t 0) (get_or b t 0)) = ap wide (s.costs t h) in
-      s.choice t h ∙ ap (λ z. cond z 1 0) (◌∙◌ {b = ltb (wide (get_or b t 0)) (wide (get_or a t 0))} (wide_ltb (get_or a t 0) (get_or b t 0) (omega arith)) (same2 ltb _ _ _ _ (sym (get_or_values0 wide refl b t)) (sym (get_or_values0 wide refl a t))));
+  below = λ t h. get_or_values0 wide refl new t ∙ (ap wide (s.below t h) ∙ sym (get_or_values0 wide refl old t));
+  picks = (
+    s.marks.0,
+    s.marks.1,
+    s.marks.2,
+    λ j h came.
+        let g = get_or_values0 wide refl new (at + j) in
+        let c : wide (get_or new (at + j) 0) ≡ wide (min (get_or a (at + j) 0) (get_or b (at + j) 0)) = ap wide (s.costs j h) in
+        s.marks.3 j h ∙ (◌∙◌ {b = ltb (wide (get_or b (at + j) 0)) (wide (get_or a (at + j) 0))} (wide_ltb (get_or a (at + j) 0) (get_or b (at + j) 0) (omega arith)) (same2 ltb _ _ _ _ (sym (get_or_values0 wide refl b (at + j))) (sym (get_or_values0 wide refl a (at + j))))),
+  );
 }
 
-pub wide_selected : (a b next : List ℕ) (word : ℕ) → AllLanes capped_min a b next word → Selected (values (λ (x : ℕ). x) a) (values (λ (x : ℕ). x) b) (values (λ (x : ℕ). x) next) word
-wide_selected a b next word s = record {
-  costs = λ t h.
-      let g = get_or_values0 (λ x. x) refl next t in
-      let x = get_or_values0 (λ x. x) refl a t in
-      let y = get_or_values0 (λ x. x) refl b t in
-      let c = s.costs t h in
+pub wide_chunk : (a b old new : List ℕ) (mask at : ℕ) → Lanes capped_min a b old new mask at → Chunk (values (λ (x : ℕ). x) a) (values (λ (x : ℕ). x) b) (values (λ (x : ℕ). x) old) (values (λ (x : ℕ). x) new) mask at
+wide_chunk a b old new mask at s = record {
+  costs = λ j h.
+      let g = get_or_values0 (λ x. x) refl new (at + j) in
+      let x = get_or_values0 (λ x. x) refl a (at + j) in
+      let y = get_or_values0 (λ x. x) refl b (at + j) in
+      let c = s.costs j h in
       omega arith;
-  choice = λ t h lt. s.choice t h ∙ ap (λ z. cond z 1 0) (same2 ltb _ _ _ _ (sym (get_or_values0 (λ x. x) refl b t)) (sym (get_or_values0 (λ x. x) refl a t)));
+  below = λ t h. get_or_values0 (λ x. x) refl new t ∙ (s.below t h ∙ sym (get_or_values0 (λ x. x) refl old t));
+  picks = (s.marks.0, s.marks.1, s.marks.2, λ j h came. s.marks.3 j h ∙ same2 ltb _ _ _ _ (sym (get_or_values0 (λ x. x) refl b (at + j))) (sym (get_or_values0 (λ x. x) refl a (at + j))));
 }
 
 -- ---- candidates, one lane after the other

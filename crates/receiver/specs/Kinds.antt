@@ -1,41 +1,49 @@
--- The kinds of stages of the receive trellis, and the table of what a window costs at each.
+-- What was heard of the stages of the receive trellis, and the table of what a window costs at each.
 -- Assumes nothing.
-use Rattle.std.specs.Prelude.{◌≡◌, ℕ, zero, suc, ◌+◌, ◌*◌, ◌/◌, ◌%◌, ◌<◌, Bool, cond, List, Some, None, Option, ◌==◌, slice_index}
+use Rattle.std.specs.Prelude.{◌≡◌, ℕ, ◌+◌, ◌*◌, ◌%◌, ◌<◌, Bool, List, [], Some, None, Option, slice_index, slice_index_or}
 use Rattle.words.specs.Words.{Bits, digit}
 use Rattle.inner_words.specs.Receiving.{sent, x_heard, y_heard, cost_of}
+use Rattle.standard.specs.declared.profile.Coded.{Coded}
+use Rattle.standard.specs.declared.profile.Coded.TheVariants.{X1, Y1, Y2, X3, Y4, X5}
+use Rattle.receiver.specs.declared.kinds.Heard.{Heard}
 
--- what was heard of an output as a number: the bit, or 2 where it is punctured
+-- an output heard as a number: the bit, or 2 where it is punctured
 abbrev pub part : Option Bool → ℕ
 part None = 2
 part (Some b) = digit b
 
--- and back
-abbrev pub heard_in : ℕ → Option Bool
-heard_in n = cond (n == 2) None (Some (n == 1))
-
+-- and both
 abbrev pub kind : Option Bool → Option Bool → ℕ
 kind x y = part x + 3 * part y
 
--- the kind of stage k
-unfoldable pub kind_at : ℕ → Bits → ℕ → ℕ
-kind_at p heard k = kind (x_heard (k % p) heard (sent p k)) (y_heard (k % p) heard (sent p k))
+-- nothing was heard yet
+abbrev pub unheard : Heard
+unheard = record { x = None; y = None }
 
--- what a window costs at a stage of a kind
-unfoldable pub cost_in : ℕ → ℕ → ℕ
-cost_in kind v = cost_of v (heard_in (kind % 3)) (heard_in (kind / 3))
+-- and one output more
+abbrev pub with_output : Heard → Coded → Bool → Heard
+with_output h X1 b = record { x = Some b; y = h.y }
+with_output h Y1 b = record { x = h.x; y = Some b }
+with_output h Y2 b = record { x = h.x; y = Some b }
+with_output h X3 b = record { x = Some b; y = h.y }
+with_output h Y4 b = record { x = h.x; y = Some b }
+with_output h X5 b = record { x = Some b; y = h.y }
 
--- how many coded bits a stage of a period sends
-abbrev pub sends : ℕ → ℕ
-sends zero = 2
-sends (suc i) = 1
+-- what was heard of stage i of a period that sends its coded bits from place j on
+abbrev pub heard_of : ℕ → Bits → ℕ → Heard
+heard_of i heard j = record { x = x_heard i heard j; y = y_heard i heard j }
 
--- the window whose cost stands at place i of a kind: first those with the present bit 0, then those with 1
-abbrev pub window_in : ℕ → ℕ
-window_in i = 2 * (i % 64) + i / 64 % 2
+-- and of stage k
+unfoldable pub heard_at : ℕ → Bits → ℕ → Heard
+heard_at p heard k = heard_of (k % p) heard (sent p k)
 
--- the first n kinds, and the first n costs, 128 windows a kind, are filled in
-abbrev pub Kinds : ℕ → Bits → List ℕ → ℕ → Type 0
-Kinds p heard kinds n = (k : ℕ) → k < n → slice_index kinds k ≡ kind_at p heard k
+-- the first n stages are filled in, of periods of p
+abbrev pub Kinds : ℕ → Bits → List Heard → ℕ → Type 0
+Kinds p heard stages n = (k : ℕ) → k < n → slice_index_or stages k unheard ≡ heard_at p heard k
 
-abbrev pub Costs : List ℕ → ℕ → Type 0
-Costs costs n = (i : ℕ) → i < n → slice_index costs i ≡ cost_in (i / 128) (window_in i)
+-- what each window costs where x and y are heard, by its present bit and its register
+abbrev pub Row : List (List ℕ) → Option Bool → Option Bool → Type 0
+Row row x y = (s : ℕ) (b : Bool) → s < 64 → slice_index (slice_index_or row (digit b) []) s ≡ cost_of (2 * s + digit b) x y
+
+abbrev pub Costs : List (List (List ℕ)) → Type 0
+Costs costs = (x y : Option Bool) → Row (slice_index_or costs (kind x y) []) x y

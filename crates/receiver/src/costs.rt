@@ -1,57 +1,67 @@
-ghost use Rattle.std.specs.Prelude.{◌≡◌, ◌<◌};
-ghost use Rattle.inner_words.specs.Receiving.{differs as differing, x_of, y_of};
-ghost use Rattle.receiver.specs.Kinds.{Costs, cost_in, heard_in};
+ghost use Rattle.std.specs.Prelude.{◌≡◌, ◌+◌, ◌*◌, ◌<◌, ℕ, slice_index};
+ghost use Rattle.inner_words.specs.Receiving.{cost_of, differs as differing, x_of, y_of};
+ghost use Rattle.receiver.specs.Kinds.{Costs, Row};
+ghost use Rattle.words.specs.Words.{digit};
 
-// In the place of the bit heard of an output that is not sent.
-pub(crate) const PUNCTURED: u8 = 2;
+use crate::kinds::Heard;
 
-// The windows of the encoder: six bits of its register and the present one, which is lowest.
-pub(crate) const WINDOWS: usize = 128;
+// A window is the six bits of the register and the present one, which is lowest; an output is the sum of the bits at
+// its taps.
+const X_TAPS: usize = 0b100_1111;
 
-// The windows that share their present bit.
-pub(crate) const HALF: usize = 64;
+const Y_TAPS: usize = 0b110_1101;
 
-// The costs of all windows at a stage of each of the nine kinds.
-pub(crate) const COSTS: usize = 1152;
+// What each window costs at a stage: by its present bit, and then by its register, through which the search goes in
+// steps of one.
+pub(crate) type Row = [[u16; 64]; 2];
 
-// X at a window.
-fn x_output(window: usize) -> bool
+fn output(window: usize, taps: usize) -> bool
     requires { window < 128 }
-    ensures { result ≡ x_of window }
+    ensures x { taps ≡ X_TAPS → result ≡ x_of window }
+    ensures y { taps ≡ Y_TAPS → result ≡ y_of window }
 {
-    (window + window / 2 + window / 4 + window / 8 + window / 64) % 2 == 1
-}
-
-// Y at a window.
-fn y_output(window: usize) -> bool
-    requires { window < 128 }
-    ensures { result ≡ y_of window }
-{
-    (window + window / 4 + window / 8 + window / 32 + window / 64) % 2 == 1
+    (window & taps).count_ones() % 2 == 1
 }
 
 // What an output costs against what was heard of it.
-fn differs(output: bool, heard: u8) -> u16
-    ensures cost { result ≡ differing output (heard_in heard) }
+fn differs(output: bool, heard: Option<bool>) -> u16
+    ensures cost { result ≡ differing output heard }
     ensures small { result < 2 }
 {
-    let agrees = output == (heard == 1);
-    if heard == PUNCTURED || agrees { 0 } else { 1 }
+    u16::from(heard.is_some_and(|bit| bit != output))
 }
 
-fn cost(kind: u8, window: usize) -> u16
-    requires { window < 128 }
-    ensures { result ≡ cost_in kind window }
+fn cost(heard: Heard, register: usize, bit: bool) -> u16
+    requires { register < 64 }
+    ensures { result ≡ cost_of (2 * register + digit bit) heard.x heard.y }
 {
-    differs(x_output(window), kind % 3) + differs(y_output(window), kind / 3)
+    let window = 2 * register + usize::from(bit);
+    differs(output(window, X_TAPS), heard.x) + differs(output(window, Y_TAPS), heard.y)
 }
 
-// What each window costs at a stage of each kind. Of a kind the windows with the present bit 0 stand before those with
-// 1, so that the search, which goes through the states by twos, reads each half in steps of one.
-pub(crate) fn fill_costs(costs: &mut [u16; 1152])
-    ensures { Costs costs.new 1152 }
+fn half(heard: Heard, bit: bool) -> [u16; 64]
+    ensures { (s : ℕ) → s < 64 → slice_index result s ≡ cost_of (2 * s + digit bit) heard.x heard.y }
 {
-    for i in 0..COSTS {
-        costs[i] = cost((i / WINDOWS) as u8, 2 * (i % HALF) + i / HALF % 2);
+    let mut half = [0; 64];
+    for (register, entry) in half.iter_mut().enumerate() {
+        *entry = cost(heard, register, bit);
     }
+    half
+}
+
+fn row(heard: Heard) -> Row
+    ensures { Row result heard.x heard.y }
+{
+    [half(heard, false), half(heard, true)]
+}
+
+// What each window costs, whatever was heard.
+pub(crate) fn costs() -> [Row; 9]
+    ensures { Costs result }
+{
+    let mut costs = [[[0; 64]; 2]; 9];
+    for (index, entry) in costs.iter_mut().enumerate() {
+        *entry = row(Heard::at(index));
+    }
+    costs
 }

@@ -1,55 +1,93 @@
 ghost use Rattle.std.specs.Prelude.{◌≡◌, ◌+◌, ◌*◌, ◌<◌, ◌≤◌, length};
-ghost use Rattle.inner_words.specs.Receiving.{x_heard, y_heard};
-ghost use Rattle.receiver.specs.Kinds.{Kinds, kind as kinded, sends as sent_at};
+ghost use Rattle.receiver.specs.Kinds.{Kinds, kind, part as parted, with_output};
 ghost use Rattle.standard.specs.Profiles.{period as periodic};
 ghost use Rattle.words.specs.Words.{flags};
 
-use crate::costs::PUNCTURED;
-use standard::profile::InnerRate;
-use words::digit;
+use standard::profile::{Coded, InnerRate};
 
-// The kind of stage `phase` of a period: what was heard of X and of Y, from place `at` on.
-fn kind(phase: usize, heard: &[bool], at: usize) -> u8
-    requires held { at + sent_at phase ≤ length heard.now }
-    ensures { result ≡ kinded (x_heard phase (flags heard.now) at) (y_heard phase (flags heard.now) at) }
+// What was heard of the outputs of a stage; `None` where one is punctured.
+#[derive(Clone, Copy)]
+pub(crate) struct Heard {
+    pub(crate) x: Option<bool>,
+    pub(crate) y: Option<bool>,
+}
+
+// What may be heard of an output, by its number.
+const OUTPUTS: [Option<bool>; 3] = [Some(false), Some(true), None];
+
+fn number(heard: Option<bool>) -> usize
+    ensures is { result ≡ parted heard }
+    ensures low { result < 3 }
 {
-    match phase {
-        0 => digit(heard[at]) + 3 * digit(heard[at + 1]),
-        1 => PUNCTURED + 3 * digit(heard[at]),
-        2 => digit(heard[at]) + 3 * PUNCTURED,
-        3 => PUNCTURED + 3 * digit(heard[at]),
-        _ => digit(heard[at]) + 3 * PUNCTURED,
+    heard.map_or(2, |bit| usize::from(bit))
+}
+
+impl Heard {
+    pub(crate) const NONE: Heard = Heard { x: None, y: None };
+
+    // Its place in a table of the nine that there are.
+    pub(crate) fn index(self) -> usize
+        ensures is { result ≡ kind self.x self.y }
+        ensures low { result < 9 }
+    {
+        number(self.x) + 3 * number(self.y)
+    }
+
+    // The one at a place of that table.
+    pub(crate) fn at(index: usize) -> Heard
+        requires { index < 9 }
+        ensures { kind result.x result.y ≡ index }
+    {
+        Heard {
+            x: OUTPUTS[index % 3],
+            y: OUTPUTS[index / 3],
+        }
+    }
+
+    // And one output more.
+    fn with(self, output: Coded, bit: bool) -> Heard
+        ensures { result ≡ with_output self output bit }
+    {
+        match output {
+            Coded::X1 | Coded::X3 | Coded::X5 => Heard {
+                x: Some(bit),
+                ..self
+            },
+            Coded::Y1 | Coded::Y2 | Coded::Y4 => Heard {
+                y: Some(bit),
+                ..self
+            },
+        }
     }
 }
 
-// How many coded bits the stage sends.
-fn sends(phase: usize) -> usize
-    ensures { result ≡ sent_at phase }
+// What was heard of the stages of one period: the first sends both outputs, the others one.
+fn fill_period(rate: InnerRate, heard: &[bool], stages: &mut [Heard])
+    requires heard { length heard.now ≡ periodic rate + 1 }
+    requires stages { length stages.old ≡ periodic rate }
+    ensures { Kinds (periodic rate) (flags heard.now) stages.new (periodic rate) }
 {
-    if phase == 0 { 2 } else { 1 }
+    let sent = rate.puncturing();
+    stages[0] = Heard::NONE.with(sent[0], heard[0]).with(sent[1], heard[1]);
+    // by an index, which goes into three slices
+    for i in 1..stages.len() {
+        stages[i] = Heard::NONE.with(sent[i + 1], heard[i + 1]);
+    }
 }
 
-// The place of the next stage in its period.
-fn next(phase: usize, period: usize) -> usize
-    requires low { phase < period }
-    ensures within { phase + 1 < period → result ≡ phase + 1 }
-    ensures around { period ≤ phase + 1 → result ≡ 0 }
-{
-    if phase + 1 < period { phase + 1 } else { 0 }
-}
-
-// The kind of each stage. The places are counted along, which is cheaper than a division at each stage.
-pub(crate) fn fill_kinds(rate: InnerRate, periods: usize, heard: &[bool], kinds: &mut [u8; 7680])
-    requires short { periodic rate * periods ≤ 7680 }
+// What was heard of every stage. By places and not by `chunks_mut`, after which a proof knows no element.
+pub(crate) fn fill_kinds(rate: InnerRate, periods: usize, heard: &[bool], stages: &mut [Heard])
+    requires room { periodic rate * periods ≤ length stages.old }
     requires held { (periodic rate + 1) * periods ≤ length heard.now }
-    ensures { Kinds (periodic rate) (flags heard.now) kinds.new (periodic rate * periods) }
+    ensures { Kinds (periodic rate) (flags heard.now) stages.new (periodic rate * periods) }
 {
     let period = rate.period();
-    let mut phase = 0;
-    let mut at = 0;
-    for k in 0..period * periods {
-        kinds[k] = kind(phase, heard, at);
-        at += sends(phase);
-        phase = next(phase, period);
+    for q in 0..periods {
+        let first = period * q;
+        fill_period(
+            rate,
+            &heard[first + q..first + q + period + 1],
+            &mut stages[first..first + period],
+        );
     }
 }

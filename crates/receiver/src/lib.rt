@@ -13,8 +13,7 @@ mod costs;
 mod kinds;
 mod receive_trellis;
 
-use crate::costs::{COSTS, fill_costs};
-use crate::kinds::fill_kinds;
+use crate::kinds::{Heard, fill_kinds};
 use crate::receive_trellis::ReceiveTrellis;
 use standard::profile::InnerRate;
 use standard::refusal::Refusal;
@@ -28,7 +27,7 @@ pub fn nearest(
     periods: usize,
     heard: &[bool],
     work: &mut [u64],
-    path: &mut [bool; 7680],
+    path: &mut [bool; PATH_BITS],
 ) -> Result<u32, Refusal>
     requires short { periodic rate * periods ≤ 7680 }
     requires held { (periodic rate + 1) * periods ≤ length heard.now }
@@ -39,23 +38,18 @@ pub fn nearest(
     ensures count { IfOk result (λ x. x ≡ wrongs (periodic rate) periods (path_of path.new) (flags heard.now)) }
     ensures past { Kept (periodic rate * periods) path.old path.new }
 {
-    let mut kinds = [0u8; PATH_BITS];
-    fill_kinds(rate, periods, heard, &mut kinds);
-    let mut costs = [0u16; COSTS];
-    fill_costs(&mut costs);
+    let mut stages = [Heard::NONE; PATH_BITS];
+    fill_kinds(rate, periods, heard, &mut stages);
+    let costs = costs::costs();
     let period = rate.period();
     let trellis = ReceiveTrellis {
         period,
-        stages: period * periods,
         heard,
-        kinds: &kinds,
+        stages: &stages[..period * periods],
         costs: &costs,
     };
-    match search(&trellis, work, path) {
-        Ok(found) => match found {
-            Some(wrong) => Ok(wrong),
-            None => unreachable(),
-        },
-        Err(refusal) => Err(refusal),
-    }
+    let Some(wrong) = search(&trellis, work, path)? else {
+        unreachable()
+    };
+    Ok(wrong)
 }

@@ -1,11 +1,12 @@
-ghost use Rattle.std.specs.Prelude.{◌≡◌, ◌<◌, ◌≤◌, not};
+ghost use Rattle.std.specs.Prelude.{◌≡◌, ◌+◌, ◌*◌, ◌<◌, ◌≤◌, length, not};
 ghost use Rattle.inner_words.proofs.Laws.{lawful as receiving_lawful};
 ghost use Rattle.inner_words.specs.Receiving.{allowed, cost as costing, receiving};
 ghost use Rattle.receiver.specs.Kinds.{Costs, Kinds};
-ghost use Rattle.words.specs.Words.{flags};
+ghost use Rattle.words.specs.Words.{digit, flags};
 
-use crate::costs::{HALF, WINDOWS};
-use trellis::{Branch, CLOSED_BRANCH, CLOSED_ENTRY, Entry, Trellis};
+use crate::costs::Row;
+use crate::kinds::Heard;
+use trellis::{Branch, Entry, Trellis};
 
 // The stages at the end whose bit is 0 in every inner word.
 const TAIL: usize = 8;
@@ -13,42 +14,43 @@ const TAIL: usize = 8;
 // The trellis of the inner words, which charges each heard bit that a word would have otherwise.
 #[derive(Drop)]
 pub(crate) struct ReceiveTrellis<'a> {
+    // for the model alone
     pub(crate) period: usize,
-    pub(crate) stages: usize,
     pub(crate) heard: &'a [bool],
-    // the kind of each stage, and what each window costs at a kind
-    pub(crate) kinds: &'a [u8; 7680],
-    pub(crate) costs: &'a [u16; 1152],
-    ghost short: { stages ≤ 7680 },
-    ghost kinded: { Kinds period (flags heard.now) kinds.now stages },
-    ghost costed: { Costs costs.now 1152 },
+    // what of it is each stage's, and what each window costs there
+    pub(crate) stages: &'a [Heard],
+    pub(crate) costs: &'a [Row; 9],
+    ghost short: { length stages.now ≤ 7680 },
+    ghost kinded: { Kinds period (flags heard.now) stages.now (length stages.now) },
+    ghost costed: { Costs costs.now },
 }
 
 impl ReceiveTrellis<'_> {
-    fn cost(&self, stage: usize, window: usize) -> u16
-        requires early { stage < self.now.stages }
-        requires low { window < 128 }
-        ensures { result ≡ costing self.now.period (flags self.now.heard.now) stage window }
+    // What a bit costs from a register.
+    fn cost(&self, stage: usize, register: usize, bit: bool) -> u16
+        requires early { stage < length self.now.stages.now }
+        requires low { register < 64 }
+        ensures { result ≡ costing self.now.period (flags self.now.heard.now) stage (2 * register + digit bit) }
     {
-        self.costs[self.kinds[stage] as usize * WINDOWS + (HALF * (window % 2) + window / 2)]
+        self.costs[self.stages[stage].index()][usize::from(bit)][register]
     }
 
     // Bit 1 is closed in the tail.
     fn closes(&self, stage: usize, bit: bool) -> bool
-        requires early { stage < self.now.stages }
-        ensures { result ≡ not (allowed self.now.stages stage bit) }
+        requires early { stage < length self.now.stages.now }
+        ensures { result ≡ not (allowed (length self.now.stages.now) stage bit) }
     {
-        bit && self.stages <= stage + TAIL
+        bit && self.stages.len() <= stage + TAIL
     }
 }
 
 impl Trellis for ReceiveTrellis<'_> {
-    ghost model = { λ x. receiving x.period x.stages (flags x.heard.now) };
+    ghost model = { λ x. receiving x.period (length x.stages.now) (flags x.heard.now) };
 
-    ghost lawful = { λ x. receiving_lawful x.period x.stages (flags x.heard.now) x.short };
+    ghost lawful = { λ x. receiving_lawful x.period (length x.stages.now) (flags x.heard.now) x.short };
 
     fn stages(&self) -> usize {
-        self.stages
+        self.stages.len()
     }
 
     fn states(&self) -> usize {
@@ -72,32 +74,26 @@ impl Trellis for ReceiveTrellis<'_> {
         true
     }
 
-    fn branch(&self, stage: usize, state: usize, bit: bool) -> Branch {
-        let window = 2 * state + if bit { 1 } else { 0 };
+    fn branch(&self, stage: usize, state: usize, bit: bool) -> Option<Branch> {
         if self.closes(stage, bit) {
-            return Branch {
-                to: 0,
-                cost: CLOSED_BRANCH,
-            };
+            return None;
         }
-        Branch {
-            to: window % 64,
-            cost: self.cost(stage, window) as u32,
-        }
+        Some(Branch {
+            to: (2 * state + usize::from(bit)) % 64,
+            cost: u32::from(self.cost(stage, state, bit)),
+        })
     }
 
-    fn entry(&self, stage: usize, state: usize, second: bool) -> Entry {
-        let oldest = if second { 1 } else { 0 };
+    fn entry(&self, stage: usize, state: usize, second: bool) -> Option<Entry> {
+        let from = state / 2 + 32 * usize::from(second);
         let bit = state % 2 == 1;
-        let cost = self.cost(stage, state + 64 * oldest);
-        Entry {
-            from: state / 2 + 32 * oldest,
-            bit,
-            cost: if self.closes(stage, bit) {
-                CLOSED_ENTRY
-            } else {
-                cost
-            },
+        if self.closes(stage, bit) {
+            return None;
         }
+        Some(Entry {
+            from,
+            bit,
+            cost: self.cost(stage, from, bit),
+        })
     }
 }

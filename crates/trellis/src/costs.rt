@@ -1,123 +1,117 @@
 ghost use Rattle.std.specs.Prelude.{◌≡◌, ℕ, ◌+◌, ◌*◌, ◌<◌, ◌≤◌, length, ◌≢◌, slice_index};
 ghost use Rattle.paths.proofs.CostEnds.{Costed};
-ghost use Rattle.paths.proofs.Pushed.{EndCost, Leasts, Partly, turn};
+ghost use Rattle.paths.proofs.Pushed.{Leasts, Partly, turn};
 
-use crate::trellis::{CLOSED_BRANCH, Trellis};
+use crate::ends::best_end;
+use crate::trellis::{NO_PATH, Trellis};
 
 // The words of one row of costs.
 const ROW_WORDS: usize = 4096;
 
-// Follows one branch; a closed one costs too much to lower anything.
-fn push<T: Trellis>(trellis: &T, k: usize, s: usize, bit: bool, row: &[u64], next: &mut [u64])
-    requires early { k < (T.model trellis.now).stages }
-    requires low { s < (T.model trellis.now).states }
-    requires row_long { (T.model trellis.now).states ≤ length row.now }
-    requires next_long { (T.model trellis.now).states ≤ length next.old }
-    requires capped { slice_index row.now s ≤ 536870912 }
-    requires sofar { Partly (T.model trellis.now) k row.now next.old (turn s bit) }
-    ensures { Partly (T.model trellis.now) k row.now next.new (turn s bit + 1) }
-{
-    let branch = trellis.branch(k, s, bit);
-    let x = row[s] + branch.cost as u64;
-    next[branch.to] = next[branch.to].min(x);
+// One stage of a trellis, and the row of costs before it.
+#[derive(Drop)]
+struct Stage<'a, T: Trellis> {
+    trellis: &'a T,
+    k: usize,
+    row: &'a [u64],
+    ghost early: { k < (T.model trellis.now).stages },
+    ghost long: { (T.model trellis.now).states ≤ length row.now },
 }
 
-// Follows both branches of a state; none where no path has reached it.
-fn push_state<T: Trellis>(trellis: &T, k: usize, s: usize, row: &[u64], next: &mut [u64])
-    requires early { k < (T.model trellis.now).stages }
-    requires low { s < (T.model trellis.now).states }
-    requires row_long { (T.model trellis.now).states ≤ length row.now }
-    requires next_long { (T.model trellis.now).states ≤ length next.old }
-    requires sofar { Partly (T.model trellis.now) k row.now next.old (2 * s) }
-    ensures { Partly (T.model trellis.now) k row.now next.new (2 * (s + 1)) }
-{
-    if row[s] < CLOSED_BRANCH as u64 {
-        push(trellis, k, s, false, row, next);
-        push(trellis, k, s, true, row, next);
+impl<T: Trellis> Stage<'_, T> {
+    // Follows one branch, if it is open.
+    fn push(&self, s: usize, bit: bool, next: &mut [u64])
+        requires low { s < (T.model self.now.trellis.now).states }
+        requires long { (T.model self.now.trellis.now).states ≤ length next.old }
+        requires capped { slice_index self.now.row.now s ≤ NO_PATH }
+        requires sofar { Partly (T.model self.now.trellis.now) self.now.k self.now.row.now next.old (turn s bit) }
+        ensures { Partly (T.model self.now.trellis.now) self.now.k self.now.row.now next.new (turn s bit + 1) }
+    {
+        if let Some(branch) = self.trellis.branch(self.k, s, bit) {
+            let x = self.row[s] + u64::from(branch.cost);
+            next[branch.to] = next[branch.to].min(x);
+        }
+    }
+
+    // Follows both branches of a state; none where no path has reached it.
+    fn push_state(&self, s: usize, next: &mut [u64])
+        requires low { s < (T.model self.now.trellis.now).states }
+        requires long { (T.model self.now.trellis.now).states ≤ length next.old }
+        requires sofar { Partly (T.model self.now.trellis.now) self.now.k self.now.row.now next.old (2 * s) }
+        ensures { Partly (T.model self.now.trellis.now) self.now.k self.now.row.now next.new (2 * (s + 1)) }
+    {
+        if self.row[s] < NO_PATH {
+            self.push(s, false, next);
+            self.push(s, true, next);
+        }
+    }
+
+    // The next row.
+    fn advance(&self, next: &mut [u64])
+        requires long { (T.model self.now.trellis.now).states ≤ length next.old }
+        requires least { Leasts (T.model self.now.trellis.now) self.now.k self.now.row.now }
+        ensures { Leasts (T.model self.now.trellis.now) (self.now.k + 1) next.new }
+    {
+        let n = self.trellis.states();
+        next[..n].fill(NO_PATH);
+        for s in 0..n {
+            self.push_state(s, next);
+        }
     }
 }
 
-fn clear(next: &mut [u64], n: usize)
-    requires { n ≤ length next.old }
-    ensures { (t : ℕ) → t < n → slice_index next.new t ≡ 536870912 }
-{
-    for t in 0..n {
-        next[t] = CLOSED_BRANCH as u64;
-    }
-}
-
-fn push_stage<T: Trellis>(trellis: &T, k: usize, row: &[u64], next: &mut [u64])
-    requires early { k < (T.model trellis.now).stages }
-    requires row_long { (T.model trellis.now).states ≤ length row.now }
-    requires next_long { (T.model trellis.now).states ≤ length next.old }
-    requires least { Leasts (T.model trellis.now) k row.now }
-    ensures { Leasts (T.model trellis.now) (k + 1) next.new }
-{
-    let n = trellis.states();
-    clear(next, n);
-    for s in 0..n {
-        push_state(trellis, k, s, row, next);
-    }
-}
-
-// All stages; two a turn, so that no row is copied.
+// All stages; two a turn, so that no row is copied. `Wanted::forward` goes the same way over rows of lanes and writes
+// survivors; a trait for both, with what each row holds and two impls, would be longer than the two loops.
 fn forward<T: Trellis>(trellis: &T, front: &mut [u64], back: &mut [u64])
-    requires front_long { length front.old ≡ 4096 }
-    requires back_long { length back.old ≡ 4096 }
+    requires front_long { length front.old ≡ ROW_WORDS }
+    requires back_long { length back.old ≡ ROW_WORDS }
     requires least { Leasts (T.model trellis.now) 0 front.old }
     ensures { Leasts (T.model trellis.now) (T.model trellis.now).stages front.new }
 {
     let n = trellis.stages();
-    let mut k = 0;
-    while k + 1 < n {
-        push_stage(trellis, k, front, back);
-        push_stage(trellis, k + 1, back, front);
-        k += 2;
+    for pair in 0..n / 2 {
+        let even = Stage {
+            trellis,
+            k: 2 * pair,
+            row: front,
+        };
+        even.advance(back);
+        let odd = Stage {
+            trellis,
+            k: 2 * pair + 1,
+            row: back,
+        };
+        odd.advance(front);
     }
-    if k < n {
-        push_stage(trellis, k, front, back);
+    if n % 2 == 1 {
+        let last = Stage {
+            trellis,
+            k: n - 1,
+            row: front,
+        };
+        last.advance(back);
         front.copy_from_slice(back);
     }
 }
 
-fn best_cost<T: Trellis>(trellis: &T, row: &[u64]) -> Option<u32>
-    requires { (T.model trellis.now).states ≤ length row.now }
-    ensures { EndCost (T.model trellis.now) row.now result }
-{
-    let mut best = CLOSED_BRANCH as u64;
-    let mut at = 0;
-    for t in 0..trellis.states() {
-        if row[t] < best {
-            if trellis.is_end(t) {
-                best = row[t];
-                at = t;
-            }
-        }
-    }
-    if best < CLOSED_BRANCH as u64 {
-        Some(best as u32)
-    } else {
-        None
-    }
-}
-
 fn first_costs(front: &mut [u64], start: usize)
-    requires { (length front.old ≡ 4096) × (start < 4096) }
+    requires { (length front.old ≡ ROW_WORDS) × (start < ROW_WORDS) }
     ensures here { slice_index front.new start ≡ 0 }
-    ensures elsewhere { (t : ℕ) → t < 4096 → (t ≢ start) → slice_index front.new t ≡ 536870912 }
+    ensures elsewhere { (t : ℕ) → t < ROW_WORDS → (t ≢ start) → slice_index front.new t ≡ NO_PATH }
 {
-    clear(front, ROW_WORDS);
+    front.fill(NO_PATH);
     front[start] = 0;
 }
 
 // The search for the cost alone: two rows of costs.
 pub(crate) fn search_cost<T: Trellis>(trellis: &T, work: &mut [u64]) -> Option<u32>
-    requires { 8192 ≤ length work.old }
+    requires { 2 * ROW_WORDS ≤ length work.old }
     ensures { Costed (T.model trellis.now) result }
 {
     let (front, rest) = work.split_at_mut(ROW_WORDS);
     let (back, _) = rest.split_at_mut(ROW_WORDS);
     first_costs(front, trellis.start());
     forward(trellis, front, back);
-    best_cost(trellis, front)
+    let end = best_end(trellis, front)?;
+    Some(front[end] as u32)
 }

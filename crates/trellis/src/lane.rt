@@ -1,12 +1,18 @@
-ghost use Rattle.std.specs.Prelude.{◌≡◌, ℕ, ◌+◌, ◌<◌, ◌≤◌, min, slice_index};
-ghost use Rattle.paths.proofs.Lanes.{AllLanes, Lanes, capped_min, values, wide};
+ghost use Rattle.std.specs.Prelude.{◌≡◌, ℕ, ◌+◌, ◌<◌, ◌≤◌, slice_index};
+ghost use Rattle.paths.proofs.Lanes.{Chunk, values, wide};
 ghost use Rattle.paths.proofs.Rows.{Alike, Selected};
 
-use crate::trellis::{CLOSED_BRANCH, CLOSED_ENTRY};
+use crate::trellis::NO_PATH;
 use std::simd::prelude::*;
 
 // The lanes of a row: one for each state of a trellis whose path is wanted.
 pub(crate) const LANES: usize = 64;
+
+// The lanes that go into one vector.
+const CHUNK: usize = 16;
+
+// A row of costs.
+pub(crate) type Row<L> = [L; LANES];
 
 // One cost in a row, of either width.
 pub(crate) trait Lane: Copy {
@@ -19,51 +25,38 @@ pub(crate) trait Lane: Copy {
     fn zero() -> Self
         ensures { value result ≡ 0 };
 
+    // No open path.
+    fn none() -> Self
+        ensures { value result ≡ NO_PATH };
+
     // A row where no path has come anywhere.
-    fn blank() -> [Self; 64]
-        ensures { (t : ℕ) → t < 64 → slice_index (values value result) t ≡ 536870912 };
+    fn blank() -> Row<Self>
+        ensures { (t : ℕ) → t < LANES → slice_index (values value result) t ≡ NO_PATH };
 
     fn plus(self, cost: u16) -> Self
-        requires capped { value self ≤ 536870912 }
-        requires small { cost < 65535 → cost ≤ 255 }
-        requires room { value self < 536870912 → cost < 65535 → value self + cost < top }
-        ensures { Alike (value result) (value self + wide cost) };
+        requires capped { value self ≤ NO_PATH }
+        requires small { cost ≤ 255 }
+        requires room { value self < NO_PATH → value self + cost < top }
+        ensures { Alike (value result) (value self + cost) };
 
-    // The less of each pair of candidates into `next`; a bit of the answer is set where that is the second.
-    fn select(a: &[Self; 64], b: &[Self; 64], next: &mut [Self; 64]) -> u64
-        ensures { Selected (values value a.now) (values value b.now) (values value next.new) result };
+    // Of sixteen lanes from `at` on, the less of each pair of candidates into `next`; a bit of the answer is set where
+    // that is the second.
+    fn select_chunk(a: &Row<Self>, b: &Row<Self>, next: &mut Row<Self>, at: usize) -> u64
+        requires { at + CHUNK ≤ LANES }
+        ensures { Chunk (values value a.now) (values value b.now) (values value next.old) (values value next.new) result at };
 
-    fn cost(self) -> u32
+    fn cost(self) -> u64
         ensures { result ≡ value self };
 }
 
-fn widen(x: u16) -> u32
-    ensures { result ≡ wide x }
-{
-    if x < CLOSED_ENTRY {
-        x as u32
-    } else {
-        CLOSED_BRANCH
-    }
-}
-
-fn narrow_chunk(a: &[u16; 64], b: &[u16; 64], next: &mut [u16; 64], at: usize) -> u64
-    requires { at + 16 ≤ 64 }
-    ensures { Lanes min a.now b.now next.old next.new result at }
-{
-    let x = u16x16::from_slice(&a[at..at + 16]);
-    let y = u16x16::from_slice(&b[at..at + 16]);
-    x.simd_min(y).copy_to_slice(&mut next[at..at + 16]);
-    y.simd_lt(x).to_bitmask()
-}
-
-fn narrow_select(a: &[u16; 64], b: &[u16; 64], next: &mut [u16; 64]) -> u64
-    ensures { AllLanes min a.now b.now next.new result }
+// The less of each pair of candidates into `next`; a bit of the answer is set where that is the second.
+pub(crate) fn select<L: Lane>(a: &Row<L>, b: &Row<L>, next: &mut Row<L>) -> u64
+    ensures { Selected (values L.Lane.value a.now) (values L.Lane.value b.now) (values L.Lane.value next.new) result }
 {
     let mut word = 0u64;
-    for g in 0..4u32 {
-        let at = 16 * g as usize;
-        word |= narrow_chunk(a, b, next, at) << 16 * g;
+    for g in 0..LANES / CHUNK {
+        let at = CHUNK * g;
+        word |= L::select_chunk(a, b, next, at) << at as u32;
     }
     word
 }
@@ -78,44 +71,32 @@ impl Lane for u16 {
         0
     }
 
-    fn blank() -> [u16; 64] {
-        [65535; 64]
+    fn none() -> u16 {
+        u16::MAX
+    }
+
+    fn blank() -> Row<u16> {
+        [u16::MAX; LANES]
     }
 
     fn plus(self, cost: u16) -> u16 {
         self.saturating_add(cost)
     }
 
-    fn select(a: &[u16; 64], b: &[u16; 64], next: &mut [u16; 64]) -> u64 {
-        narrow_select(a, b, next)
+    fn select_chunk(a: &Row<u16>, b: &Row<u16>, next: &mut Row<u16>, at: usize) -> u64 {
+        let x = u16x16::from_slice(&a[at..at + CHUNK]);
+        let y = u16x16::from_slice(&b[at..at + CHUNK]);
+        x.simd_min(y).copy_to_slice(&mut next[at..at + CHUNK]);
+        y.simd_lt(x).to_bitmask()
     }
 
-    fn cost(self) -> u32 {
-        widen(self)
+    fn cost(self) -> u64 {
+        if self < u16::MAX {
+            u64::from(self)
+        } else {
+            NO_PATH
+        }
     }
-}
-
-fn wide_chunk(a: &[u32; 64], b: &[u32; 64], next: &mut [u32; 64], at: usize) -> u64
-    requires { at + 16 ≤ 64 }
-    ensures { Lanes capped_min a.now b.now next.old next.new result at }
-{
-    let x = u32x16::from_slice(&a[at..at + 16]);
-    let y = u32x16::from_slice(&b[at..at + 16]);
-    let less = y.simd_lt(x);
-    let least = less.select(y, x).simd_min(u32x16::splat(CLOSED_BRANCH));
-    least.copy_to_slice(&mut next[at..at + 16]);
-    less.to_bitmask()
-}
-
-fn wide_select(a: &[u32; 64], b: &[u32; 64], next: &mut [u32; 64]) -> u64
-    ensures { AllLanes capped_min a.now b.now next.new result }
-{
-    let mut word = 0u64;
-    for g in 0..4u32 {
-        let at = 16 * g as usize;
-        word |= wide_chunk(a, b, next, at) << 16 * g;
-    }
-    word
 }
 
 // Thirty-two bits: each stage caps its sums at 2 ^ 29.
@@ -128,20 +109,28 @@ impl Lane for u32 {
         0
     }
 
-    fn blank() -> [u32; 64] {
-        [CLOSED_BRANCH; 64]
+    fn none() -> u32 {
+        NO_PATH as u32
     }
 
-    // Only a closed cost has a high byte, which alone is past 2 ^ 29 here; with no test, this goes into vectors.
+    fn blank() -> Row<u32> {
+        [NO_PATH as u32; LANES]
+    }
+
     fn plus(self, cost: u16) -> u32 {
-        self + cost as u32 + cost as u32 / 256 * 4194304
+        self + u32::from(cost)
     }
 
-    fn select(a: &[u32; 64], b: &[u32; 64], next: &mut [u32; 64]) -> u64 {
-        wide_select(a, b, next)
+    fn select_chunk(a: &Row<u32>, b: &Row<u32>, next: &mut Row<u32>, at: usize) -> u64 {
+        let x = u32x16::from_slice(&a[at..at + CHUNK]);
+        let y = u32x16::from_slice(&b[at..at + CHUNK]);
+        let less = y.simd_lt(x);
+        let least = less.select(y, x).simd_min(u32x16::splat(NO_PATH as u32));
+        least.copy_to_slice(&mut next[at..at + CHUNK]);
+        less.to_bitmask()
     }
 
-    fn cost(self) -> u32 {
-        self
+    fn cost(self) -> u64 {
+        u64::from(self)
     }
 }

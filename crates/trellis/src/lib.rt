@@ -2,10 +2,11 @@
 #![tactic(auto)]
 
 mod costs;
+mod ends;
 mod lane;
 mod searching;
 mod survivors;
 mod trellis;
 
 pub use searching::{PATH_BITS, WORK_WORDS, search};
-pub use trellis::{Branch, CLOSED_BRANCH, CLOSED_ENTRY, Entry, Trellis};
+pub use trellis::{Branch, Entry, Trellis};

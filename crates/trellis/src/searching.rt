@@ -4,7 +4,7 @@ ghost use Rattle.standard.specs.Refusals.{first, refused};
 ghost use Rattle.trellis.specs.Search.{search_rows};
 
 use crate::costs::search_cost;
-use crate::survivors::search_path;
+use crate::survivors::Wanted;
 use crate::trellis::Trellis;
 use standard::refusal::Refusal;
 
@@ -21,7 +21,7 @@ pub const PATH_BITS: usize = 7680;
 pub fn search<T: Trellis>(
     trellis: &T,
     work: &mut [u64],
-    path: &mut [bool; 7680],
+    path: &mut [bool; PATH_BITS],
 ) -> Result<Option<u32>, Refusal>
     ensures answer { refused result ≡ first (search_rows (length work.old)) }
     ensures work_kept { is_ok result ≡ false → work.new ≡ work.old }
@@ -32,7 +32,7 @@ pub fn search<T: Trellis>(
         return Err(Refusal::Memory);
     }
     if trellis.wants_path() {
-        Ok(search_path(trellis, work, path))
+        Ok(Wanted { trellis }.search(work, path))
     } else {
         Ok(search_cost(trellis, work))
     }

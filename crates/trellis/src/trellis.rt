@@ -1,29 +1,26 @@
 ghost use Rattle.std.specs.Prelude.{◌≡◌, ◌<◌, true};
+ghost use Rattle.std.specs.Option.{option_map};
 ghost use Rattle.paths.specs.Model.{Lawful, Model};
-ghost use Rattle.paths.specs.Replies.{Enters, Leads};
 
-// The cost of a closed branch: above that of any path.
-pub const CLOSED_BRANCH: u32 = 536870912;
-
-// The cost of an entry that a state does not have.
-pub const CLOSED_ENTRY: u16 = 65535;
+// In a row, the cost of a state where no path has come: above that of any path. Rows of costs are numbers and not
+// options, since the memory lent is words, and lanes go into vectors.
+pub(crate) const NO_PATH: u64 = 536870912;
 
 // Where a bit leads from a state.
 #[derive(Clone, Copy)]
 pub struct Branch {
-    // any state where the branch is closed
     pub to: usize,
-    // at most 255, or `CLOSED_BRANCH`
+    // at most 255
     pub cost: u32,
 }
 
 // A branch as the state that it leads to sees it.
 #[derive(Clone, Copy)]
 pub struct Entry {
-    // the predecessor; any state where there is no such entry
+    // the predecessor
     pub from: usize,
     pub bit: bool,
-    // at most 255, or `CLOSED_ENTRY`
+    // at most 255
     pub cost: u16,
 }
 
@@ -56,16 +53,16 @@ pub trait Trellis {
     fn is_narrow(&self) -> bool
         ensures { result ≡ (model self.now).narrow };
 
-    // The branch by which `bit` leaves the state.
-    fn branch(&self, stage: usize, state: usize, bit: bool) -> Branch
+    // The branch by which `bit` leaves the state; `None` where it is closed.
+    fn branch(&self, stage: usize, state: usize, bit: bool) -> Option<Branch>
         requires early { stage < (model self.now).stages }
         requires low { state < (model self.now).states }
-        ensures { Leads (model self.now).states ((model self.now).branch stage state bit) result.to result.cost };
+        ensures { option_map (λ b. (b.to, b.cost)) result ≡ (model self.now).branch stage state bit };
 
-    // The first or the second open branch into the state, by rising predecessor and then bit.
-    fn entry(&self, stage: usize, state: usize, second: bool) -> Entry
+    // The first or the second open branch into the state, by rising predecessor and then bit, if there is one.
+    fn entry(&self, stage: usize, state: usize, second: bool) -> Option<Entry>
         requires wanted { (model self.now).wanted ≡ true }
         requires early { stage < (model self.now).stages }
         requires low { state < (model self.now).states }
-        ensures { Enters (model self.now).states ((model self.now).entry stage state second) result.from result.bit result.cost };
+        ensures { option_map (λ e. (e.from, e.bit, e.cost)) result ≡ (model self.now).entry stage state second };
 }

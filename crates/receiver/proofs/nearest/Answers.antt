@@ -1,20 +1,14 @@
+use Rattle.std.proofs.Common.{arith}
+use Rattle.std.proofs.lemmas.Grind.{common_steps}
 use Rattle.words.specs.Words.{flags}
-use Rattle.standard.specs.Profiles.{period}
-use Rattle.receiver.proofs.Tables.{rated_as}
 use Rattle.receiver.proofs.Finding.{found_nearest, found_some}
 use Rattle.receiver.proofs.nearest.Goals as goal
 
 pub unreachable-requires : goal.unreachable-requires
-unreachable-requires c = found_some c.period-period.result c.args.periods (flags c.args.heard.now) _ _ c.in-Ok.found (rated_as c.period-period.result c.args.rate c.period-period.ensures) c.in-Ok.ensures.found c.in-None.is
+unreachable-requires c = found_some c.args.rate _ c.args.periods _ (flags c.args.heard.now) _ _ _ c.period-period.ensures (grind (arith, common_steps)) c.in_ok-wrong.ensures.found c.in_default.is
 
-pub returns-in-Some : goal.returns-in-Some
-returns-in-Some c =
-    let f = found_nearest c.period-period.result (period c.args.rate) c.args.periods (flags c.args.heard.now) _ _ c.in-Ok.found c.in-Some.wrong (rated_as c.period-period.result c.args.rate c.period-period.ensures) c.period-period.ensures c.in-Ok.ensures.found c.in-Some.is in
-    record {
-      answer = c.in-Ok.ensures.answer;
-      work_kept = c.in-Ok.ensures.work_kept;
-      path_kept = c.in-Ok.ensures.path_kept;
-      nearest = f.is_nearest;
-      count = f.count;
-      past = f.past;
-    }
+pub returns-clause-nearest : goal.returns-clause-nearest
+returns-clause-nearest c = (found_nearest c.args.rate _ c.args.periods _ (flags c.args.heard.now) _ _ _ c.period-period.ensures (grind (arith, common_steps)) c.in_ok-wrong.ensures.found _ c.in-Some.is).0
+
+pub returns-clause-count : goal.returns-clause-count
+returns-clause-count c = (found_nearest c.args.rate _ c.args.periods _ (flags c.args.heard.now) _ _ _ c.period-period.ensures (grind (arith, common_steps)) c.in_ok-wrong.ensures.found _ c.in-Some.is).1

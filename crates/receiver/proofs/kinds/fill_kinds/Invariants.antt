@@ -1,7 +1,7 @@
-use Rattle.std.proofs.Common.{◌≡◌, length}
+use Rattle.std.proofs.Common.{◌*◌}
 use Rattle.words.specs.Words.{flags}
-use Rattle.receiver.proofs.Tables.{Along}
+use Rattle.receiver.specs.Kinds.{Kinds}
 use Rattle.receiver.proofs.kinds.fill_kinds.Given as goal
 
-abbrev pub invariant-loop-k : goal.invariant-loop-k
-invariant-loop-k l = Along l.period (flags l.heard) l.kinds l.k l.phase l.at × (length l.kinds ≡ 7680)
+abbrev pub invariant-loop-q : goal.invariant-loop-q
+invariant-loop-q l = Kinds l.period (flags l.heard) l.stages (l.period * l.q)

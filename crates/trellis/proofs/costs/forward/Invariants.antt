@@ -1,9 +1,6 @@
-use Rattle.std.proofs.Common.{◌-◌, ◌≤◌}
+use Rattle.std.proofs.Common.{◌*◌}
 use Rattle.paths.proofs.Pushed.{Leasts}
 use Rattle.trellis.proofs.costs.forward.Given as goal
 
-abbrev pub invariant-loop-k : goal.invariant-loop-k
-invariant-loop-k g l = (l.k ≤ l.n) × Leasts (g.T.Trellis.model l.trellis) l.k l.front
-
-abbrev pub decreases-loop-k : goal.decreases-loop-k
-decreases-loop-k g l = l.n - l.k
+abbrev pub invariant-loop-pair : goal.invariant-loop-pair
+invariant-loop-pair g l = Leasts (g.T.Trellis.model l.trellis) (2 * l.pair) l.front

@@ -1,13 +1,14 @@
-use Rattle.std.proofs.Common.{arith}
-use Rattle.words.specs.Words.{flags}
-use Rattle.receiver.proofs.Tables.{kind_lt, cost_at}
+use Rattle.std.proofs.Common.{◌≡◌, ap, ◌∙◌, rules}
+use Rattle.words.specs.Words.{digit, flags}
+use Rattle.inner_words.specs.Receiving.{cost}
+use Rattle.receiver.specs.declared.kinds.Heard.{Heard}
+use Rattle.receiver.specs.Kinds.{heard_at, kind}
 use Rattle.receiver.proofs.receive_trellis.ReceiveTrellis.cost.Goals as goal
 
-pub bounds-self-self : goal.bounds-self-self
-bounds-self-self c =
-    let e = c.args.self.now.kinded c.args.stage c.requires.early in
-    let l = kind_lt c.args.self.now.period (flags c.args.self.now.heard.now) c.args.stage in
-    omega arith
-
 pub returns : goal.returns
-returns c = cost_at c.args.self.now.period (flags c.args.self.now.heard.now) _ _ c.args.self.now.stages c.args.stage c.args.window c.args.self.now.kinded c.args.self.now.costed c.requires.early c.requires.low
+unfolding cost heard_at
+returns c =
+    let h : Heard = heard_at c.args.self.now.period (flags c.args.self.now.heard.now) c.args.stage in
+    let i : c.index.result ≡ kind h.x h.y = c.index.ensures.is ∙ ap (λ (h : Heard). kind h.x h.y) (c.args.self.now.kinded c.args.stage c.requires.early) in
+    let d : c.from.result ≡ digit c.args.bit = search rules in
+    rw (i, d) (c.args.self.now.costed h.x h.y c.args.register c.args.bit c.requires.low)
