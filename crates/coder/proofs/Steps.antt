@@ -1,16 +1,18 @@
 -- What each step of the chain leaves in its buffer.
 -- Assumes nothing.
-use Rattle.std.proofs.Common.{◌≡◌, ℕ, suc, ◌+◌, ◌*◌, ◌/◌, ◌<◌, ◌≤◌, Bool, false, cond, List, length, get_or, set, pos, sym, refl, ap, ◌∙◌, subst, ap₂, inl, inr, add_assoc, mul_assoc, mul_comm, mul-le-mul, mul-le-mul_left, mul-suc, mul_left_comm, arith, get_or-set_other, get_or-set_same, le-ltb, lt-ltb}
+use Rattle.std.proofs.Common.{◌≡◌, ℕ, suc, ◌+◌, ◌*◌, ◌/◌, ◌<◌, ◌≤◌, Bool, false, cond, List, ◌++◌, length, take, get_or, set, pos, sym, refl, ap, ◌∙◌, subst, ap₂, inl, inr, add_assoc, mul_assoc, mul_comm, mul-le-mul_left, mul-suc, mul_left_comm, arith, get_or-set_other, get_or-set_same, le-ltb, lt-ltb}
 use native.Mathlib.Decide.{ℕ_discrete}
-use Rattle.words.specs.Words.{Bits, Bytes, word, flags, bits, value}
+use Rattle.std.proofs.lemmas.List.{get_or_append_left, get_or-take}
+use Rattle.words.specs.Words.{Bits, word, flags, bits, value}
 use Rattle.words.proofs.Bridge.{bits_same, value_same}
+use Rattle.standard.specs.declared.order.Order.{Order}
 use Rattle.standard.specs.declared.order.Request.{Request}
 use Rattle.standard.specs.declared.point.Point.{Point}
 use Rattle.standard.specs.declared.profile.InnerRate.{InnerRate}
 use Rattle.standard.specs.declared.profile.InnerRate.TheVariants.{Half, TwoThirds, ThreeQuarters, FiveSixths}
-use Rattle.standard.specs.declared.profile.Profile.{Profile}
 use Rattle.standard.specs.Profiles.{Modulation, Fitting, period}
-use Rattle.standard.specs.Refusals.{capacity}
+use Rattle.standard.specs.Refusals.{asked, capacity}
+use Rattle.standard.proofs.Fits.{profiles_fit}
 use Rattle.scrambler.specs.Scrambler.{start, scrambled}
 use Rattle.scrambler.proofs.Keys.{scrambled_same}
 use Rattle.outer_code.specs.Blocks.{blocks}
@@ -25,45 +27,34 @@ use Rattle.constellation.specs.Constellation.{level, point, origin}
 use Rattle.coder.specs.Sending.{Sent, band, profiled, filled, message, protected, coded_bits, symbol_bits, burst_length, sent}
 use Rattle.coder.proofs.Lawfulness.{sent_goes}
 
--- one byte more
-pub written : (xs : List ℕ) (w : Bytes) (i v : ℕ) → i < length xs → v ≡ w i → ((k : ℕ) → k < i → get_or xs k 0 ≡ w k) → (k : ℕ) → k < i + 1 → get_or (set xs i v) k 0 ≡ w k
-written xs w i v l e inv k h =
-    elim (ℕ_discrete k i) [
-      | yes q ↦ ap (λ (m : ℕ). get_or (set xs i v) m 0) q ∙ get_or-set_same xs i v 0 l ∙ e ∙ ap w (sym q)
-      | no q ↦ get_or-set_other xs i k v 0 q ∙ inv k (omega arith)
-    ]
-
-pub filled_given : (d : List ℕ) (i v : ℕ) → i < length d → v ≡ get_or d i 0 → v ≡ filled d i
-filled_given d i v h e = e ∙ sym (ap (λ (b : Bool). cond b (get_or d i 0) 255) (lt-ltb i (length d) h))
-
-pub filled_up : (d : List ℕ) (i v : ℕ) → length d ≤ i → v ≡ 255 → v ≡ filled d i
-filled_up d i v h e = e ∙ sym (ap (λ (b : Bool). cond b (get_or d i 0) 255) (le-ltb i (length d) h))
+-- the profile of an order fits together
+pub fitting : (o : Order) → Fitting (profiled (asked o))
+fitting o = profiles_fit o.rate o.known
 
 -- filled up, scrambled, and the tail written at the capacity
-pub message_done : (r : Request) (d full mixed : List ℕ) (count register : ℕ) → count ≡ capacity r.rate r.symbols → count < length mixed → r.symbols * (profiled r).message ≤ count + 1
-    → register ≡ start r.bsid r.uiuc r.frame → ((i : ℕ) → i < count → get_or full i 0 ≡ filled d i) → ((i : ℕ) → i < count → get_or mixed i 0 ≡ scrambled register (word full) i)
-    → (i : ℕ) → i < r.symbols * (profiled r).message → get_or (set mixed count 0) i 0 ≡ message r d i
+pub message_done : (o : Order) (d full mixed rest : List ℕ) (count register : ℕ) → count ≡ capacity o.rate o.symbols → count ≡ length mixed → count < length (mixed ++ rest) → o.symbols * (profiled (asked o)).message ≤ count + 1
+    → register ≡ start o.bsid o.uiuc o.frame → ((i : ℕ) → i < count → get_or full i 0 ≡ filled d i) → ((i : ℕ) → i < count → get_or mixed i 0 ≡ scrambled register (word full) i)
+    → (i : ℕ) → i < o.symbols * (profiled (asked o)).message → get_or (set (mixed ++ rest) count 0) i 0 ≡ message (asked o) d i
 unfolding message
-message_done r d full mixed count register ec room long er f s i h =
+message_done o d full mixed rest count register ec em room long er f s i h =
     elim (ℕ_discrete i count) [
-      | yes q ↦ ap (λ (m : ℕ). get_or (set mixed count 0) m 0) q ∙ get_or-set_same mixed count 0 0 room
-          ∙ sym (ap (λ (b : Bool). cond b (scrambled (start r.bsid r.uiuc r.frame) (filled d) i) 0) (le-ltb i (capacity r.rate r.symbols) (omega arith)))
-      | no q ↦ get_or-set_other mixed count i 0 0 q ∙ s i (omega arith) ∙ scrambled_same register (word full) (filled d) count f i (omega arith)
+      | yes q ↦ ap (λ (m : ℕ). get_or (set (mixed ++ rest) count 0) m 0) q ∙ get_or-set_same (mixed ++ rest) count 0 0 room
+          ∙ sym (ap (λ (b : Bool). cond b (scrambled (start o.bsid o.uiuc o.frame) (filled d) i) 0) (le-ltb i (capacity o.rate o.symbols) (omega arith)))
+      | no q ↦ let l : i < count = omega arith in
+          get_or-set_other (mixed ++ rest) count i 0 0 q ∙ get_or_append_left mixed rest 0 i (omega arith) ∙ s i l ∙ scrambled_same register (word full) (filled d) count f i l
           ∙ ap (λ (x : ℕ). scrambled x (filled d) i) er
-          ∙ sym (ap (λ (b : Bool). cond b (scrambled (start r.bsid r.uiuc r.frame) (filled d) i) 0) (lt-ltb i (capacity r.rate r.symbols) (omega arith)))
+          ∙ sym (ap (λ (b : Bool). cond b (scrambled (start o.bsid o.uiuc o.frame) (filled d) i) 0) (lt-ltb i (capacity o.rate o.symbols) (omega arith)))
     ]
 
--- n symbols of k each, within the most there are
-pub within : (n k most : ℕ) → n ≤ 8 → k ≤ most → n * k ≤ 8 * most
-within n k most h l = mul-le-mul h l
-
-pub blocks_done : (r : Request) (d bytes coded : List ℕ) → Fitting (profiled r) → ((i : ℕ) → i < r.symbols * (profiled r).message → get_or bytes i 0 ≡ message r d i)
-    → ((i : ℕ) → i < r.symbols * (2 * (profiled r).limit + (profiled r).message) → get_or coded i 0 ≡ blocks (profiled r).message (profiled r).limit (word bytes) i)
-    → (i : ℕ) → i < r.symbols * (profiled r).block → get_or coded i 0 ≡ protected r d i
+pub blocks_done : (o : Order) (d bytes coded : List ℕ) → ((i : ℕ) → i < o.symbols * (profiled (asked o)).message → get_or bytes i 0 ≡ message (asked o) d i)
+    → ((i : ℕ) → i < o.symbols * (2 * (profiled (asked o)).limit + (profiled (asked o)).message) → get_or coded i 0 ≡ blocks (profiled (asked o)).message (profiled (asked o)).limit (word bytes) i)
+    → (i : ℕ) → i < o.symbols * (profiled (asked o)).block → get_or coded i 0 ≡ protected (asked o) d i
 unfolding protected
-blocks_done r d bytes coded f m c i h =
-    let l : i < r.symbols * (2 * (profiled r).limit + (profiled r).message) = subst (λ (n : ℕ). i < r.symbols * n) f.parity h in
-    c i l ∙ blocks_same (profiled r).message (profiled r).limit (omega arith) r.symbols (word bytes) (message r d) m i l
+blocks_done o d bytes coded m c i h =
+    let f = fitting o in
+    let some : 0 < (profiled (asked o)).message = omega (arith, f.some) in
+    let l : i < o.symbols * (2 * (profiled (asked o)).limit + (profiled (asked o)).message) = subst (λ (n : ℕ). i < o.symbols * n) f.parity h in
+    c i l ∙ blocks_same (profiled (asked o)).message (profiled (asked o)).limit some o.symbols (word bytes) (message (asked o) d) m i l
 
 -- ---- whole periods
 -- the bytes of n blocks are whole periods, and their coded bits are those of n symbols
@@ -86,38 +77,30 @@ periods rate n block c e = go rate e
     go ThreeQuarters h = let a = bits in let b = bytes 18 (omega arith) in let q : 8 * (n * block) / 3 ≡ 48 * (n * c) = omega arith in record { whole = omega arith; coded = omega arith }
     go FiveSixths h = let a = bits in let b = bytes 20 (omega arith) in let q : 8 * (n * block) / 5 ≡ 32 * (n * c) = omega arith in record { whole = omega arith; coded = omega arith }
 
--- as the code counts them
-pub counted : (p : Profile) (n period-of : ℕ) → Fitting p → period-of ≡ period p.inner → Periods (period p.inner) n p.block p.bits (8 * (n * p.block) / period-of)
-counted p n period-of f e = subst (λ (x : ℕ). Periods (period p.inner) n p.block p.bits (8 * (n * p.block) / x)) (sym e) (periods p.inner n p.block p.bits f.whole)
+pub counted : (o : Order) → Periods (period (profiled (asked o)).inner) o.symbols (profiled (asked o)).block (profiled (asked o)).bits (8 * (o.symbols * (profiled (asked o)).block) / period (profiled (asked o)).inner)
+counted o = let f = fitting o in periods (profiled (asked o)).inner o.symbols (profiled (asked o)).block (profiled (asked o)).bits f.whole
 
-pub few_bits : (c n : ℕ) → Modulation c → n ≤ 8 → size band c * n ≤ 9216
-few_bits c n m h = mul-le-mul {n₁ = size band c} {m₁ = n} {n₂ = 1152} {m₂ = 8} (at_most c m) h
-  where
-    at_most : (c : ℕ) → Modulation c → size band c ≤ 1152
-    at_most c (inl e) = omega arith
-    at_most c (inr (inl e)) = omega arith
-    at_most c (inr (inr (inl e))) = omega arith
-    at_most c (inr (inr (inr e))) = omega arith
-
-pub coded_done : (r : Request) (d blocks : List ℕ) (bs : List Bool) (q : ℕ) → Periods (period (profiled r).inner) r.symbols (profiled r).block (profiled r).bits q
-    → ((i : ℕ) → i < r.symbols * (profiled r).block → get_or blocks i 0 ≡ protected r d i) → ((j : ℕ) → j < (period (profiled r).inner + 1) * q → get_or bs j false ≡ coded (period (profiled r).inner) (bits (word blocks)) j)
+pub coded_done : (r : Request) (d blocks : List ℕ) (bs : List Bool) (count q : ℕ) → count ≡ r.symbols * (profiled r).block → 8 * (r.symbols * (profiled r).block) ≡ period (profiled r).inner * q → (period (profiled r).inner + 1) * q ≡ burst_length r
+    → ((i : ℕ) → i < r.symbols * (profiled r).block → get_or blocks i 0 ≡ protected r d i)
+    → ((j : ℕ) → j < (period (profiled r).inner + 1) * q → get_or bs j false ≡ coded (period (profiled r).inner) (bits (word (take count blocks))) j)
     → (j : ℕ) → j < burst_length r → get_or bs j false ≡ coded_bits r d j
 unfolding coded_bits
-coded_done r d blocks bs q p b c j h =
-    let l : j < (period (profiled r).inner + 1) * q = subst (λ (n : ℕ). j < n) (sym p.coded) h in
+coded_done r d blocks bs count q n whole all b c j h =
+    let l : j < (period (profiled r).inner + 1) * q = subst (λ (n : ℕ). j < n) (sym all) h in
     c j l
-    ∙ coded_same (period (profiled r).inner) q (bits (word blocks)) (bits (protected r d)) (rated (profiled r).inner)
-    (λ k m. bits_same (word blocks) (protected r d) (r.symbols * (profiled r).block) b k (subst (λ (n : ℕ). k < n) (sym p.whole) m)) j l
+    ∙ coded_same (period (profiled r).inner) q (bits (word (take count blocks))) (bits (protected r d)) (rated (profiled r).inner)
+    (λ k m. bits_same (word (take count blocks)) (protected r d) (r.symbols * (profiled r).block) (λ i l. get_or-take count blocks i 0 (omega arith) ∙ b i l) k (subst (λ (n : ℕ). k < n) (sym whole) m)) j l
 
 -- ---- the order sent
-pub sent_done : (r : Request) (d : List ℕ) (bs out : List Bool) → Modulation (profiled r).bits → ((j : ℕ) → j < burst_length r → get_or bs j false ≡ coded_bits r d j)
-    → Interleaved band (profiled r).bits r.symbols (flags bs) (flags out) → (j : ℕ) → j < burst_length r → get_or out j false ≡ sent r d j
-sent_done r d bs out m c i j h =
-    permutation.sent_by_coded band (profiled r).bits r.symbols (coded_bits r d) (flags out) (sent r d) (omega arith) m
-    (record { goes = λ b k hb hk. i.goes b k hb hk ∙ c (symbol_bits r * b + k) (in_burst b k hb hk) }) (sent_goes r d m) j h
+pub sent_done : (o : Order) (d : List ℕ) (bs out : List Bool) → ((j : ℕ) → j < burst_length (asked o) → get_or bs j false ≡ coded_bits (asked o) d j)
+    → Interleaved band (profiled (asked o)).bits o.symbols (flags bs) (flags out) → (j : ℕ) → j < burst_length (asked o) → get_or out j false ≡ sent (asked o) d j
+sent_done o d bs out c i j h =
+    let f = fitting o in
+    permutation.sent_by_coded band (profiled (asked o)).bits o.symbols (coded_bits (asked o) d) (flags out) (sent (asked o) d) (omega arith) f.modulation
+    (record { goes = λ b k hb hk. i.goes b k hb hk ∙ c (symbol_bits (asked o) * b + k) (in_burst b k hb hk) }) (sent_goes (asked o) d f.modulation) j h
   where
-    in_burst : (b k : ℕ) → b < r.symbols → k < symbol_bits r → symbol_bits r * b + k < burst_length r
-    in_burst b k hb hk = let e = symbol_ends (symbol_bits r) b r.symbols hb in omega arith
+    in_burst : (b k : ℕ) → b < o.symbols → k < symbol_bits (asked o) → symbol_bits (asked o) * b + k < burst_length (asked o)
+    in_burst b k hb hk = let e = symbol_ends (symbol_bits (asked o)) b o.symbols hb in omega arith
 
 -- ---- points
 abbrev in_line : ℕ → Point
@@ -145,17 +128,17 @@ module _ (a b : Bits) (t : ℕ) where
   point_same c (inr (inr (inl e))) = subst (λ (c : ℕ). Alike c → point c a t ≡ point c b t) (sym e) (λ h. let s = same_half 4 2 refl h in ap₂ (λ (x y : ℕ). level_pair 2 x y) s.0 s.1)
   point_same c (inr (inr (inr e))) = subst (λ (c : ℕ). Alike c → point c a t ≡ point c b t) (sym e) (λ h. let s = same_half 6 3 refl h in ap₂ (λ (x y : ℕ). level_pair 3 x y) s.0 s.1)
 
-pub points_done : (r : Request) (d : List ℕ) (bs : List Bool) (points : List Point) → Modulation (profiled r).bits → length points ≡ 192 * r.symbols → ((j : ℕ) → j < burst_length r → get_or bs j false ≡ sent r d j)
-    → ((t : ℕ) → t < length points → get_or points t origin ≡ point (profiled r).bits (flags bs) t) → Sent r d points
-points_done r d bs points m e s p =
+pub points_done : (o : Order) (d : List ℕ) (bs : List Bool) (points : List Point) → length points ≡ 192 * o.symbols → ((j : ℕ) → j < burst_length (asked o) → get_or bs j false ≡ sent (asked o) d j)
+    → ((t : ℕ) → t < length points → get_or points t origin ≡ point (profiled (asked o)).bits (flags bs) t) → Sent (asked o) d points
+points_done o d bs points e s p =
     record {
       count = e;
-      point = λ t h. p t (subst (λ (n : ℕ). t < n) (sym e) h) ∙ point_same (flags bs) (sent r d) t (profiled r).bits m (λ u l. s ((profiled r).bits * t + u) (in_burst (profiled r).bits t u h l));
+      point = λ t h. p t (subst (λ (n : ℕ). t < n) (sym e) h) ∙ point_same (flags bs) (sent (asked o) d) t (profiled (asked o)).bits (fitting o).modulation (λ u l. s ((profiled (asked o)).bits * t + u) (in_burst (profiled (asked o)).bits t u h l));
     }
   where
-    in_burst : (c t u : ℕ) → t < 192 * r.symbols → u < c → c * t + u < size band c * r.symbols
+    in_burst : (c t u : ℕ) → t < 192 * o.symbols → u < c → c * t + u < size band c * o.symbols
     in_burst c t u h l =
         let a = mul-le-mul_left c h in
-        let b : c * (192 * r.symbols) ≡ size band c * r.symbols = sym (mul_assoc c 192 r.symbols) ∙ ap (λ (x : ℕ). x * r.symbols) (mul_comm c 192) in
+        let b : c * (192 * o.symbols) ≡ size band c * o.symbols = sym (mul_assoc c 192 o.symbols) ∙ ap (λ (x : ℕ). x * o.symbols) (mul_comm c 192) in
         let e : c * suc t ≡ c * t + c = mul-suc c t in
         omega arith

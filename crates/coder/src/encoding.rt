@@ -1,23 +1,12 @@
 ghost use Rattle.std.specs.Prelude.{◌≡◌, ℕ, ◌*◌, ◌<◌, ◌≤◌, true, false, length, is_ok, IfOk, OnOk, slice_index_or};
 ghost use Rattle.coder.specs.Sending.{Sent, burst_length, sent as sending};
-ghost use Rattle.standard.specs.Refusals.{Accepted, asked, burst_rows, encode_rows, first, refused};
+ghost use Rattle.standard.specs.Refusals.{burst_rows, encode_rows, first, refused};
 
-use crate::bits::{BURST_BITS, write_sent};
-use standard::order::{Order, Request};
+use crate::burst::Burst;
+use crate::chain::BURST_BITS;
+use standard::order::Request;
 use standard::point::Point;
 use standard::refusal::Refusal;
-
-// The order of a request that has room for so much data.
-fn accept_burst(request: Request, long: usize) -> Result<Order, Refusal>
-    ensures answer { refused result ≡ first (burst_rows request long) }
-    ensures order { IfOk result (λ o. asked o ≡ request) }
-{
-    let order = Order::accept(request)?;
-    if long > order.capacity() {
-        return Err(Refusal::DataLength);
-    }
-    Ok(order)
-}
 
 // The bits of the burst that carries the data, in the order sent; the answer is how many. A refusal changes nothing.
 pub fn burst_bits(
@@ -31,9 +20,9 @@ pub fn burst_bits(
     ensures bits { OnOk result ((j : ℕ) → j < burst_length request → slice_index_or sent.new j false ≡ sending request payload.now j) }
     ensures past { OnOk result ((j : ℕ) → burst_length request ≤ j → slice_index_or sent.new j false ≡ slice_index_or sent.old j false) }
 {
-    let order = accept_burst(request, payload.len())?;
-    write_sent(order, payload, sent);
-    Ok(192 * order.profile().bits * order.symbols())
+    let burst = Burst::accept(request, payload)?;
+    burst.write_sent(sent);
+    Ok(192 * burst.order.profile().bits * burst.order.symbols())
 }
 
 // The points of the burst that carries the data. A refusal changes nothing.
@@ -42,12 +31,12 @@ pub fn encode(request: Request, payload: &[u8], points: &mut [Point]) -> Result<
     ensures kept { is_ok result ≡ false → points.new ≡ points.old }
     ensures points { OnOk result (Sent request payload.now points.new) }
 {
-    let order = accept_burst(request, payload.len())?;
-    if points.len() != 192 * order.symbols() {
+    let burst = Burst::accept(request, payload)?;
+    if points.len() != 192 * burst.order.symbols() {
         return Err(Refusal::PointCount);
     }
     let mut sent = [false; BURST_BITS];
-    write_sent(order, payload, &mut sent);
-    constellation::map(order.profile().bits, &sent, points);
+    burst.write_sent(&mut sent);
+    constellation::map(burst.order.profile().modulation(), &sent, points);
     Ok(())
 }

@@ -2,7 +2,7 @@
 -- Assumes nothing.
 use Rattle.std.proofs.Common.{◌≡◌, ℕ, zero, suc, ◌+◌, ◌-◌, ◌*◌, ◌/◌, ◌%◌, ◌<◌, Bool, true, false, cond, ltb, List, [], ◌∷◌, ◌++◌, length, get_or, drop, Some, None, Ok, Err, Result, sym, refl, ap, ◌∙◌, subst, ap₂, inl, inr, mod-lt, mul_assoc, mul_comm, div-lt_iff_lt-mul, mul-le-mul_left, mul-suc, arith, le-ltb, lt-ltb}
 use native.Mathlib.Nat.{div-add-mod}
-use Rattle.words.specs.Words.{Bits, bits, bytes, part, word}
+use Rattle.words.specs.Words.{Bits, bits, bytes, part, total, word}
 use Rattle.words.proofs.Bridge.{bytes_bits, get_or_listed, length_listed, listed_same, value_same}
 use Rattle.standard.specs.declared.order.Request.{Request}
 use Rattle.standard.specs.declared.point.Point.{Point}
@@ -32,7 +32,7 @@ use Rattle.constellation.proofs.Hearing.{decisions}
 use Rattle.coder.specs.Sending.{band, profiled, filled, message, protected, coded_bits, symbol_bits, burst_length, sent, Sent}
 use Rattle.coder.proofs.Lawfulness.{lawful, message_lt, sent_goes}
 use Rattle.coder.proofs.Steps.{Periods, periods}
-use Rattle.decoder.specs.Taken.{Taken, total}
+use Rattle.decoder.specs.Taken.{Taken}
 use Rattle.decoder.specs.Receiving.{Inner, Decodes, RoundTrip, block, message_of, wrong_count, decode_rows}
 use Rattle.decoder.specs.declared.report.Report.{Report}
 

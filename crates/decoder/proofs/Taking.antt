@@ -1,64 +1,27 @@
 -- Outer words taken block by block.
 -- Assumes nothing.
-use Rattle.std.proofs.Common.{◌≡◌, ℕ, zero, suc, ◌+◌, ◌-◌, ◌*◌, ◌<◌, ◌≤◌, List, get_or, Some, None, sym, refl, ap, ◌∙◌, subst, ap₂, mul-le-mul_left, mul-suc, add-one, arith}
+use Rattle.std.proofs.Common.{◌≡◌, ℕ, zero, suc, ◌+◌, ◌-◌, ◌*◌, ◌<◌, ◌≤◌, List, Some, None, sym, refl, ap, ◌∙◌, subst, ap₂, mul-le-mul_left, mul-suc, add-one, arith, get_or}
 use native.Mathlib.Decide.{ℕ_discrete}
-use Rattle.words.specs.Words.{Bytes, part, word}
+use Rattle.words.specs.Words.{Bytes, part, total, word}
 use Rattle.words.proofs.Bridge.{get_or_listed, listed_same}
 use Rattle.standard.specs.declared.order.Request.{Request}
-use Rattle.standard.specs.declared.profile.Profile.{Profile}
 use Rattle.standard.specs.Profiles.{Fitting}
 use Rattle.outer_theory.specs.Syndromes.{differing}
-use Rattle.outer_theory.specs.Correction.{Corrected, Refused}
+use Rattle.outer_theory.specs.Correction.{Corrected}
 use Rattle.coder.specs.Sending.{profiled}
-use Rattle.decoder.specs.Taken.{Taken, total}
+use Rattle.decoder.specs.Taken.{Taken}
 use Rattle.decoder.specs.Blocks.{nth, OneTaken, BlocksTaken, NoBlock}
 
--- what correcting says of block b at a profile
-abbrev pub RefusedAt : Profile → ℕ → List ℕ → List ℕ → Type 0
-RefusedAt p b old new = Refused p.message p.limit p.limit (part (2 * p.limit + p.message) (p.block * b) (word old)) (part (2 * p.limit + p.message) (p.block * b) (word new))
-
-abbrev pub CorrectedAt : Profile → ℕ → List ℕ → List ℕ → ℕ → Type 0
-CorrectedAt p b old new wrong = Corrected p.message p.limit p.limit (part (2 * p.limit + p.message) (p.block * b) (word old)) (part (2 * p.limit + p.message) (p.block * b) (word new)) wrong
-
-module _ (r : Request) (b : ℕ) (old new : List ℕ) (whole : (profiled r).block ≡ 2 * (profiled r).limit + (profiled r).message) where
-  size : ℕ
-  size = 2 * (profiled r).limit + (profiled r).message
-
-  pub taken_none : RefusedAt (profiled r) b old new → OneTaken r b (word old) (word new) None
-  taken_none f w t = f.none w t.outer (subst (λ (m : ℕ). differing (part m ((profiled r).block * b) (word old)) w ≤ (profiled r).limit) whole t.near)
-
-  last_byte : (w : List ℕ) → 0 < (profiled r).block → w ≡ nth r (word new) b → get_or new ((profiled r).block * b + ((profiled r).block - 1)) 0 ≡ get_or w ((profiled r).block - 1) 0
-  last_byte w some e =
-      sym (get_or_listed (profiled r).block (λ k. word new ((profiled r).block * b + k)) ((profiled r).block - 1) (omega arith)) ∙ ap (λ (v : List ℕ). get_or v ((profiled r).block - 1) 0) (sym e)
-
-  pub taken_untailed : (wrong : ℕ) → CorrectedAt (profiled r) b old new wrong → 0 < (profiled r).block → b + 1 ≡ r.symbols → (get_or new ((profiled r).block * b + ((profiled r).block - 1)) 0 ≡ 0 → ⊥) → OneTaken r b (word old) (word new) None
-  taken_untailed wrong c some last bad w t =
-      let e : w ≡ nth r (word new) b = c.only w t.outer (subst (λ (m : ℕ). differing (part m ((profiled r).block * b) (word old)) w ≤ (profiled r).limit) whole t.near) ∙ ap (λ (m : ℕ). part m ((profiled r).block * b) (word new)) (sym whole) in
-      bad (last_byte w some e ∙ t.tail last)
-
-  pub taken_some : (wrong : ℕ) → CorrectedAt (profiled r) b old new wrong → 0 < (profiled r).block → (b + 1 ≡ r.symbols → get_or new ((profiled r).block * b + ((profiled r).block - 1)) 0 ≡ 0) → OneTaken r b (word old) (word new) (Some wrong)
-  taken_some wrong c some tail =
-      subst (λ (m : ℕ). Taken r b (part m ((profiled r).block * b) (word old)) (part m ((profiled r).block * b) (word new)) × (wrong ≡ differing (part m ((profiled r).block * b) (word old)) (part m ((profiled r).block * b) (word new)))) (sym whole) (
-        record {
-          outer = c.outer;
-          near = let d = c.counted in let f = c.few in omega arith;
-          tail = λ last. ap (λ (m : ℕ). get_or (part m ((profiled r).block * b) (word new)) ((profiled r).block - 1) 0) (sym whole) ∙ sym (last_byte (nth r (word new) b) some refl) ∙ tail last;
-        },
-        sym c.counted,
-      )
-
--- what stands outside block b is as it was
-pub record Outside (r : Request) (b : ℕ) (old new : List ℕ) : Type 0 where
-  pub before : (k : ℕ) → k < (profiled r).block * b → get_or new k 0 ≡ get_or old k 0
-  pub past : (k : ℕ) → (profiled r).block * (b + 1) ≤ k → get_or new k 0 ≡ get_or old k 0
-
-pub outside : (r : Request) (p : Profile) (b : ℕ) (old new : List ℕ) → p ≡ profiled r → Fitting p → ((k : ℕ) → k < p.block * b → get_or new k 0 ≡ get_or old k 0)
-    → ((k : ℕ) → p.block * b + (2 * p.limit + p.message) ≤ k → get_or new k 0 ≡ get_or old k 0) → Outside r b old new
-outside r p b old new e f before past =
-    record {
-      before = subst (λ (q : Profile). (k : ℕ) → k < q.block * b → get_or new k 0 ≡ get_or old k 0) e before;
-      past = subst (λ (q : Profile). (k : ℕ) → q.block * (b + 1) ≤ k → get_or new k 0 ≡ get_or old k 0) e (λ k l. past k (let m : p.block * (b + 1) ≡ p.block * b + p.block = ap (λ (x : ℕ). p.block * x) (add-one b) ∙ mul-suc p.block b in let g = f.parity in omega arith));
-    }
+-- a block whose only outer word within the limit does not end in 00, though it is the last
+pub untailed : (r : Request) (b wrong : ℕ) (old new : Bytes) → Fitting (profiled r)
+    → Corrected (profiled r).message (profiled r).limit (profiled r).limit (part (2 * (profiled r).limit + (profiled r).message) ((profiled r).block * b) old) (part (2 * (profiled r).limit + (profiled r).message) ((profiled r).block * b) new) wrong
+    → b + 1 ≡ r.symbols → (new ((profiled r).block * b + ((profiled r).block - 1)) ≡ 0 → ⊥) → OneTaken r b old new None
+untailed r b wrong old new f c last bad w t =
+    let n = (profiled r).block in
+    let some : n - 1 < n = omega (arith, f.some, f.parity) in
+    let near : differing (part (2 * (profiled r).limit + (profiled r).message) (n * b) old) w ≤ (profiled r).limit = subst (λ (m : ℕ). differing (part m (n * b) old) w ≤ (profiled r).limit) f.parity t.near in
+    let e : w ≡ nth r new b = c.only w t.outer near ∙ ap (λ (m : ℕ). part m (n * b) new) (sym f.parity) in
+    bad (sym (get_or_listed n (λ k. new (n * b + k)) (n - 1) some) ∙ ap (λ (v : List ℕ). get_or v (n - 1) 0) (sym e) ∙ t.tail last)
 
 -- ---- block after block
 module _ (r : Request) where

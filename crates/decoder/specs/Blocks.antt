@@ -1,11 +1,11 @@
 -- What each step of taking outer words leaves.
 -- Assumes nothing.
 use Rattle.std.specs.Prelude.{◌≡◌, ℕ, ◌+◌, ◌-◌, ◌*◌, ◌/◌, ◌%◌, ◌<◌, ◌≤◌, List, Some, None, Option}
-use Rattle.words.specs.Words.{Bytes, part}
+use Rattle.words.specs.Words.{Bytes, part, total}
 use Rattle.standard.specs.declared.order.Request.{Request}
 use Rattle.outer_theory.specs.Syndromes.{differing}
 use Rattle.coder.specs.Sending.{profiled}
-use Rattle.decoder.specs.Taken.{Taken, total}
+use Rattle.decoder.specs.Taken.{Taken}
 
 -- block b of bytes
 abbrev pub nth : Request → Bytes → ℕ → List ℕ

@@ -1,7 +1,7 @@
 -- Receiving: from the points of a burst back to its data.
 -- Assumes nothing.
 use Rattle.std.specs.Prelude.{◌≡◌, ℕ, ◌+◌, ◌-◌, ◌*◌, ◌/◌, ◌%◌, ◌<◌, ◌≤◌, not, ◌⊎◌, List, [], ◌∷◌, ◌++◌, length, Some, None, Ok, Err, Result, ◌==◌, nat_lt, slice_index}
-use Rattle.words.specs.Words.{Bits, Bytes, bytes, part}
+use Rattle.words.specs.Words.{Bits, Bytes, bytes, part, total}
 use Rattle.standard.specs.declared.order.Request.{Request}
 use Rattle.standard.specs.declared.point.Point.{Point}
 use Rattle.standard.specs.declared.refusal.Refusal.{Refusal}
@@ -14,15 +14,18 @@ use Rattle.outer_theory.specs.Syndromes.{differing}
 use Rattle.inner_words.specs.InnerWords.{Nearest, wrong}
 use Rattle.coder.specs.Sending.{Sent, filled, profiled}
 use Rattle.decoder.specs.Hearing.{Received}
-use Rattle.decoder.specs.Taken.{Taken, total}
+use Rattle.decoder.specs.Taken.{Taken}
 use Rattle.decoder.specs.declared.report.Report.{Report}
+
+-- the conditions on a request and its points, in the order in which they are looked at
+abbrev pub points_rows : Request → ℕ → List Row
+points_rows r points = request_rows r ++ row PointCount (not (points == 192 * r.symbols)) ∷ []
 
 -- the conditions on a call, in the order in which they are looked at, but for the blocks themselves
 abbrev pub decode_rows : Request → ℕ → ℕ → ℕ → List Row
 decode_rows r points room words =
-    request_rows r
-    ++ row PointCount (not (points == 192 * r.symbols))
-    ∷ row Output (nat_lt room (capacity r.rate r.symbols))
+    points_rows r points
+    ++ row Output (nat_lt room (capacity r.rate r.symbols))
     ∷ row Memory (nat_lt words 8192)
     ∷ []
 

@@ -1,6 +1,6 @@
 -- The outer word that is taken for a block.
 -- Assumes nothing.
-use Rattle.std.specs.Prelude.{◌≡◌, ℕ, zero, suc, ◌+◌, ◌-◌, ◌≤◌, List, slice_index}
+use Rattle.std.specs.Prelude.{◌≡◌, ℕ, ◌+◌, ◌-◌, ◌≤◌, List, slice_index}
 use Rattle.standard.specs.declared.order.Request.{Request}
 use Rattle.outer_code.specs.Outer.{Outer}
 use Rattle.outer_theory.specs.Syndromes.{differing}
@@ -12,8 +12,3 @@ pub record Taken (r : Request) (b : ℕ) (received w : List ℕ) : Type 0 where
   pub outer : Outer (profiled r).message (profiled r).limit w
   pub near : differing received w ≤ (profiled r).limit
   pub tail : b + 1 ≡ r.symbols → slice_index w ((profiled r).block - 1) ≡ 0
-
--- f 0 + .. + f (n - 1)
-abbrev pub total : ℕ → (ℕ → ℕ) → ℕ
-total zero f = 0
-total (suc n) f = total n f + f n

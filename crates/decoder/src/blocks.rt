@@ -1,41 +1,81 @@
-ghost use Rattle.std.specs.Prelude.{◌≡◌, ℕ, ◌+◌, ◌*◌, ◌<◌, ◌≤◌, length, MatchResult, slice_index};
+ghost use Rattle.std.specs.Prelude.{◌≡◌, ℕ, ◌+◌, ◌*◌, ◌/◌, ◌%◌, ◌<◌, ◌≤◌, length, MatchResult, slice_index};
 ghost use Rattle.coder.specs.Sending.{profiled};
-ghost use Rattle.decoder.specs.Blocks.{BlocksTaken, NoBlock, OneTaken};
-ghost use Rattle.standard.specs.Refusals.{asked};
+ghost use Rattle.decoder.specs.Blocks.{BlocksTaken, NoBlock, OneTaken, messages};
+ghost use Rattle.scrambler.specs.Scrambler.{scrambled, start};
+ghost use Rattle.standard.specs.Refusals.{asked, capacity as capable};
+ghost use Rattle.standard.specs.declared.refusal.Refusal.TheVariants.{Block};
 ghost use Rattle.words.specs.Words.{word};
 
+use coder::{BLOCK_BYTES, MESSAGE_BYTES, register};
 use corrector::correct_at;
 use standard::order::Order;
+use standard::refusal::Refusal;
 
-// Makes of block `b` the outer word to take, and says in how many bytes it differed.
-fn take_block(order: Order, b: usize, blocks: &mut [u8]) -> Option<usize>
-    requires within { b < order.symbols }
-    requires there { order.symbols * (profiled (asked order)).block ≤ length blocks.old }
-    ensures taken { OneTaken (asked order) b (word blocks.old) (word blocks.new) result }
-    ensures before { (k : ℕ) → k < (profiled (asked order)).block * b → slice_index blocks.new k ≡ slice_index blocks.old k }
-    ensures past { (k : ℕ) → (profiled (asked order)).block * (b + 1) ≤ k → slice_index blocks.new k ≡ slice_index blocks.old k }
-{
-    let profile = order.profile();
-    let at = profile.block * b;
-    let wrong = correct_at(blocks, at, profile.message, profile.limit, profile.limit)?;
-    if b + 1 == order.symbols() && blocks[at + (profile.block - 1)] != 0 {
-        return None;
-    }
-    Some(wrong)
+// The blocks of an order, one after another.
+#[derive(Drop)]
+pub(crate) struct Blocks {
+    pub(crate) order: Order,
+    pub(crate) bytes: [u8; BLOCK_BYTES],
 }
 
-// Makes of each block the outer word to take, and says in how many bytes they differed together; or which block, counted
-// from 1, is the first that has none.
-pub(crate) fn take_blocks(order: Order, blocks: &mut [u8]) -> Result<u32, u8>
-    requires { order.symbols * (profiled (asked order)).block ≤ length blocks.old }
-    ensures { MatchResult result (λ sum. BlocksTaken (asked order) order.symbols (word blocks.old) (word blocks.new) sum) (λ k. NoBlock (asked order) (word blocks.old) k) }
-{
-    let mut sum: u32 = 0;
-    for b in 0..order.symbols() {
-        match take_block(order, b, blocks) {
-            Some(wrong) => sum += wrong as u32,
-            None => return Err(b as u8 + 1),
+impl Blocks {
+    // Makes of block `b` the outer word to take, and says in how many bytes it differed.
+    fn take_block(&mut self, b: usize) -> Option<usize>
+        requires { b < self.old.order.symbols }
+        ensures order { self.new.order ≡ self.old.order }
+        ensures taken { OneTaken (asked self.old.order) b (word self.old.bytes) (word self.new.bytes) result }
+        ensures before { (k : ℕ) → k < (profiled (asked self.old.order)).block * b → slice_index self.new.bytes k ≡ slice_index self.old.bytes k }
+        ensures past { (k : ℕ) → (profiled (asked self.old.order)).block * (b + 1) ≤ k → slice_index self.new.bytes k ≡ slice_index self.old.bytes k }
+    {
+        let shape = self.order.profile().shape();
+        let at = shape.block() * b;
+        let wrong = correct_at(&mut self.bytes, at, shape, shape.limit)?;
+        if b + 1 == self.order.symbols() && self.bytes[at + (shape.block() - 1)] != 0 {
+            return None;
         }
+        Some(wrong)
     }
-    Ok(sum)
+
+    // Makes of each block the outer word to take, and says in how many bytes they differed together; or refuses the
+    // first that has none.
+    pub(crate) fn take(&mut self) -> Result<u32, Refusal>
+        ensures order { self.new.order ≡ self.old.order }
+        ensures taken { MatchResult result (λ sum. BlocksTaken (asked self.old.order) self.old.order.symbols (word self.old.bytes) (word self.new.bytes) sum) (λ e. (k : ℕ) × (e ≡ Block k) × NoBlock (asked self.old.order) (word self.old.bytes) k) }
+    {
+        let mut sum: u32 = 0;
+        for b in 0..self.order.symbols() {
+            let wrong = self.take_block(b).ok_or(Refusal::Block(b as u8 + 1))?;
+            sum += wrong as u32;
+        }
+        Ok(sum)
+    }
+
+    // The message bytes of the blocks, one after another.
+    fn messages(&self) -> [u8; MESSAGE_BYTES]
+        ensures { (i : ℕ) → i < self.now.order.symbols * (profiled (asked self.now.order)).message → slice_index result i
+            ≡ messages (profiled (asked self.now.order)).message (profiled (asked self.now.order)).limit (word self.now.bytes) i }
+    {
+        let shape = self.order.profile().shape();
+        let mut all = [0; MESSAGE_BYTES];
+        for b in 0..self.order.symbols() {
+            let at = shape.size * b;
+            let from = shape.block() * b + shape.parity();
+            all[at..at + shape.size].copy_from_slice(&self.bytes[from..from + shape.size]);
+        }
+        all
+    }
+
+    // Writes the data of the blocks, which are all outer words: the tail is dropped, and the scrambler undone.
+    pub(crate) fn write_data(&self, out: &mut [u8])
+        requires { capable self.now.order.rate self.now.order.symbols ≤ length out.old }
+        ensures written { (i : ℕ) → i < capable self.now.order.rate self.now.order.symbols → slice_index out.new i
+            ≡ scrambled (start self.now.order.bsid self.now.order.uiuc self.now.order.frame) (messages (profiled (asked self.now.order)).message (profiled (asked self.now.order)).limit (word self.now.bytes)) i }
+        ensures past { (i : ℕ) → capable self.now.order.rate self.now.order.symbols ≤ i → slice_index out.new i ≡ slice_index out.old i }
+    {
+        let count = self.order.capacity();
+        let all = self.messages();
+        let data = &mut out[..count];
+        data.copy_from_slice(&all[..count]);
+        register(self.order).scramble(data);
+    }
 }

@@ -3,9 +3,7 @@
 
 mod blocks;
 mod decoding;
-mod hearing;
-mod nearest;
+mod received;
 pub mod report;
-mod writing;
 
 pub use decoding::decode;

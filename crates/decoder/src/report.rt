@@ -1,5 +1,5 @@
 // What decoding tells beside the data.
-#[derive(Clone, Copy)]
+#[derive(Clone, Copy, Debug, PartialEq, Eq)]
 pub struct Report {
     // in how many coded bits the nearest inner word differs from what was heard
     pub wrong_bits: u32,

@@ -1,0 +1,10 @@
+use Rattle.std.proofs.Common.{◌<◌, ◌≢◌, length, arith, get_or-set_other, get_or-set_same, below_more}
+use Rattle.words.specs.Words.{flags}
+use Rattle.decoder.proofs.Packing.{packed}
+use Rattle.decoder.proofs.received.pack.Goals as goal
+
+pub loop-i-preserved : goal.loop-i-preserved
+loop-i-preserved c =
+    below_more _ _
+    (λ k h. let ne : k ≢ c.loop-i.i = omega arith in rw get_or-set_other (c.loop-i.invariant k h))
+    (let lt : c.loop-i.i < length c.loop-i.bytes = omega arith in rw (get_or-set_same, c.nibble.ensures.value, c.nibble-in-loop-i.ensures.value) (packed (flags c.args.bits.now) c.loop-i.i))
