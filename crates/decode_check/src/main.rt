@@ -3,33 +3,30 @@
 #![tactic(auto)]
 
 use decoder::report::Report;
-use standard::order::Request;
+use standard::order::{Order, Request};
 use standard::point::Point;
 use standard::refusal::Refusal;
 use std::alloc::Global;
 use std::io::Read;
+use trellis::WORK_WORDS;
 
 const INPUT_BYTES: u64 = 65536;
 
-const WORK_WORDS: usize = 8192;
+// The 192 points of a symbol, four bytes each.
+const SYMBOL_BYTES: usize = 768;
 
+// The most data bytes that a burst has.
 const DATA_BYTES: usize = 863;
 
-// A signed number of 16 bits, high byte first.
-fn axis(high: u8, low: u8) -> i16 {
-    i16::from_be_bytes([high, low])
-}
-
-// The points of as many bytes as make whole ones.
+// The points of as many bytes as make whole ones: both axes in 16 bits, high byte first.
 fn points_of(heap: Global, bytes: &[u8]) -> anyhow::Result<Vec<Point>> {
     let mut points = Vec::new(heap);
-    for four in bytes.chunks_exact(4) {
-        if let [a, b, c, d] = four {
-            points.push(Point {
-                i: axis(*a, *b),
-                q: axis(*c, *d),
-            })?;
-        }
+    let (fours, _) = bytes.as_chunks::<4>();
+    for [a, b, c, d] in fours {
+        points.push(Point {
+            i: i16::from_be_bytes([*a, *b]),
+            q: i16::from_be_bytes([*c, *d]),
+        })?;
     }
     Ok(points)
 }
@@ -54,58 +51,40 @@ fn show_refusal(rt: &HostRuntime, refusal: Refusal) -> anyhow::Result<()> {
     Ok(())
 }
 
-// How many bytes a burst of so many symbols of the rate carries.
-fn capacity(rate: u8, symbols: u8) -> usize {
-    let sizes = [12usize, 24, 36, 48, 72, 96, 108];
-    match sizes.get(rate as usize) {
-        Some(size) => (*size * symbols as usize).saturating_sub(1),
-        None => 0,
-    }
+// The data of a burst that is taken, in as many bytes as it carries.
+fn decoded<'a>(
+    request: Request,
+    points: &[Point],
+    out: &'a mut [u8],
+    work: &mut [u64],
+) -> Result<(Report, &'a [u8]), Refusal> {
+    let report = decoder::decode(request, points, out, work)?;
+    let order = Order::try_from(request)?;
+    Ok((report, &out[..order.capacity()]))
 }
 
-fn show_burst(rt: &HostRuntime, head: &[u8; 5], points: &[u8]) -> anyhow::Result<()> {
-    let request = Request {
-        rate: head[0] as u32,
-        bsid: head[1] as u32,
-        uiuc: head[2] as u32,
-        frame: head[3] as u32,
-        symbols: head[4] as u32,
-    };
+fn show_burst(rt: &HostRuntime, request: Request, points: &[u8]) -> anyhow::Result<()> {
     let points = points_of(rt.alloc(), points)?;
     let mut out = vec![in rt.alloc(); 0u8; DATA_BYTES]?;
     let mut work = vec![in rt.alloc(); 0u64; WORK_WORDS]?;
-    match decoder::decode(
-        request,
-        points.as_slice(),
-        out.as_mut_slice(),
-        work.as_mut_slice(),
-    ) {
-        Ok(report) => {
-            let count = capacity(head[0], head[4]);
-            if count <= out.len() {
-                show_data(rt, report, &out[0..count])?;
-            }
-        }
-        Err(refusal) => show_refusal(rt, refusal)?,
+    match decoded(request, &points, &mut out, &mut work) {
+        Ok((report, data)) => show_data(rt, report, data),
+        Err(refusal) => show_refusal(rt, refusal),
     }
-    Ok(())
 }
 
 fn run(rt: &HostRuntime) -> anyhow::Result<()> {
     let mut input = Vec::new(rt.alloc());
     rt.stdin().take(INPUT_BYTES).read_to_end(&mut input)?;
     let mut rest = input.as_slice();
-    while let [rate, bsid, uiuc, frame, symbols, tail @ ..] = rest {
-        let count = *symbols as usize * 768;
-        if tail.len() < count {
+    while let Some((head, tail)) = rest.split_first_chunk::<5>() {
+        let request = Request::from(*head);
+        let Some((points, after)) = tail.split_at_checked(request.symbols as usize * SYMBOL_BYTES)
+        else {
             break;
-        }
-        show_burst(
-            rt,
-            &[*rate, *bsid, *uiuc, *frame, *symbols],
-            &tail[0..count],
-        )?;
-        rest = &tail[count..];
+        };
+        show_burst(rt, request, points)?;
+        rest = after;
     }
     Ok(())
 }

@@ -9,7 +9,7 @@ const INPUT_BYTES: u64 = 65536;
 fn main(rt: HostRuntime) -> anyhow::Result<()> {
     let mut input = Vec::new(rt.alloc());
     rt.stdin().take(INPUT_BYTES).read_to_end(&mut input)?;
-    let text = records::answer_input(rt.alloc(), input.as_slice())?;
+    let text = records::answer_input(rt.alloc(), &input)?;
     rt.stdout().write_all(text.as_bytes())?;
     Ok(())
 }

@@ -1,3 +1,2 @@
-pub mod Heads
 pub mod Spelling
 pub mod Replies

@@ -1,7 +1,7 @@
 -- The text of lines and of whole inputs, piece by piece.
 -- Assumes nothing.
 use Rattle.std.proofs.Common.{◌≡◌, ℕ, zero, suc, ◌+◌, ◌-◌, ◌*◌, ◌/◌, ◌<◌, ◌≤◌, Bool, true, false, cond, ltb, List, [], ◌∷◌, ◌++◌, length, get_or, take, drop, Some, None, codes, Option, sym, refl, ap, ◌∙◌, ap₂, append_assoc, append-nil, arith, ltb-false}
-use Rattle.std.proofs.lemmas.List.{length-drop, length-take, take_all, drop-drop}
+use Rattle.std.proofs.lemmas.List.{length-drop, length-take, take_all, drop-drop, get_or-take}
 use Rattle.words.specs.Words.{Bits, flags}
 use Rattle.words.proofs.Bridge.{value_same}
 use Rattle.std.specs.Fmt.{digit_glyph}
@@ -15,12 +15,6 @@ use Rattle.records.specs.Lines.{begun, hex}
 use Rattle.records.specs.Records.{burst, broken, head, marked, long_in, request_in}
 use Rattle.records.specs.Answers.{newline, line_of_burst, line, used, followed, lines, text}
 
--- begun, a space, the digits, and the end of the line
-pub pieces : (a b c d start digits : List ℕ) → a ≡ start → b ≡ a ++ 32 ∷ [] → c ≡ b ++ digits → d ≡ c ++ 10 ∷ [] → d ≡ start ++ (codes " " ++ (digits ++ newline))
-pieces a b c d start digits ea eb ec ed =
-    ed ∙ ap (λ (x : List ℕ). x ++ 10 ∷ []) (ec ∙ ap (λ (x : List ℕ). x ++ digits) (eb ∙ ap (λ (x : List ℕ). x ++ 32 ∷ []) ea))
-    ∙ append_assoc (start ++ 32 ∷ []) digits (10 ∷ []) ∙ append_assoc start (32 ∷ []) (digits ++ 10 ∷ [])
-
 pub hex_same : (n : ℕ) (u v : Bits) → ((k : ℕ) → k < 4 * n → u k ≡ v k) → hex n u ≡ hex n v
 unfolding hex
 hex_same zero u v h = refl
@@ -29,11 +23,13 @@ hex_same (suc n) u v h =
     (value_same 4 (λ t. u (4 * n + t)) (λ t. v (4 * n + t)) (λ t l. h (4 * n + t) (omega arith)))
 
 -- the line of a burst that nothing refuses
-pub burst_sent : (place : ℕ) (r : Request) (d : List ℕ) (bs : List Bool) (n : ℕ) → None ≡ first (burst_rows r (length d)) → n ≡ burst_length r → ((j : ℕ) → j < burst_length r → get_or bs j false ≡ sent r d j)
-    → (s : List ℕ) → s ≡ begun place Bu 0 ++ (codes " " ++ (hex (n / 4) (flags bs) ++ newline)) → s ≡ line_of_burst place r d (first (burst_rows r (length d)))
-burst_sent place r d bs n none e b s h =
-    h
-    ∙ ap (λ (xs : List ℕ). begun place Bu 0 ++ (codes " " ++ (xs ++ newline))) (hex_same (n / 4) (flags bs) (sent r d) (λ k l. b k (omega arith)) ∙ ap (λ (m : ℕ). hex (m / 4) (sent r d)) e)
+pub burst_sent : (place : ℕ) (r : Request) (d : List ℕ) (bs : List Bool) (n : ℕ) → n ≤ length bs → None ≡ first (burst_rows r (length d)) → n ≡ burst_length r → ((j : ℕ) → j < burst_length r → get_or bs j false ≡ sent r d j)
+    → begun place Bu 0 ++ (codes " " ++ (hex (length (take n bs) / 4) (flags (take n bs)) ++ newline)) ≡ line_of_burst place r d (first (burst_rows r (length d)))
+burst_sent place r d bs n room none e b =
+    let long : length (take n bs) ≡ n = simp length-take (omega arith) in
+    ap (λ (xs : List ℕ). begun place Bu 0 ++ (codes " " ++ (xs ++ newline)))
+    (ap (λ (m : ℕ). hex (m / 4) (flags (take n bs))) (long ∙ e)
+    ∙ hex_same (burst_length r / 4) (flags (take n bs)) (sent r d) (λ k l. get_or-take n bs k false (omega arith) ∙ b k (omega arith)))
     ∙ ap (λ (o : Option Refusal). line_of_burst place r d o) none
 
 -- ---- records one after another
@@ -106,18 +102,18 @@ used_in input place n h e =
     let w = used_within (drop place input) n (ap (λ (xs : List ℕ). used (head xs)) (sym (rest_is input place)) ∙ e) in
     (w.0, omega arith)
 
-module _ (input before after row : List ℕ) (place : ℕ) (h : place < length input) (inv : before ++ text place (drop place input) ≡ text 0 input)
-    (er : row ≡ line place (head (rest_of input place))) (ea : after ≡ before ++ row) where
+module _ (input before after : List ℕ) (place : ℕ) (h : place < length input) (inv : before ++ text place (drop place input) ≡ text 0 input)
+    (ea : after ≡ before ++ line place (head (rest_of input place))) where
   some : 0 < length (drop place input)
   some = let d = length-drop place input in omega arith
 
-  row_is : row ≡ line place (head (drop place input))
-  row_is = er ∙ ap (λ (xs : List ℕ). line place (head xs)) (rest_is input place)
+  row_is : line place (head (rest_of input place)) ≡ line place (head (drop place input))
+  row_is = ap (λ (xs : List ℕ). line place (head xs)) (rest_is input place)
 
   pub inputs_next : (n : ℕ) → used (head (rest_of input place)) ≡ Some n → after ++ text (place + n) (drop (place + n) input) ≡ text 0 input
   inputs_next n e =
       let eu : used (head (drop place input)) ≡ Some n = ap (λ (xs : List ℕ). used (head xs)) (sym (rest_is input place)) ∙ e in
-      ap (λ (xs : List ℕ). xs ++ text (place + n) (drop (place + n) input)) ea ∙ append_assoc before row (text (place + n) (drop (place + n) input))
+      ap (λ (xs : List ℕ). xs ++ text (place + n) (drop (place + n) input)) ea ∙ append_assoc before (line place (head (rest_of input place))) (text (place + n) (drop (place + n) input))
       ∙ ap (λ (xs : List ℕ). before ++ xs) (ap₂ ◌++◌ row_is (ap (text (place + n)) (sym (drop-drop n place input))) ∙ sym (text_next place n (drop place input) some eu))
       ∙ inv
 

@@ -1,20 +1,27 @@
 -- Hexadecimal text, digit by digit.
 -- Assumes nothing.
-use Rattle.std.proofs.Common.{◌≡◌, ℕ, ◌+◌, ◌*◌, ◌<◌, Bool, true, false, cond, ltb, List, [], ◌∷◌, ◌++◌, sym, refl, ap, ◌∙◌, ap₂, append_assoc, add-one, arith, ltb-true}
-use Rattle.std.specs.Fmt.{digit_glyph}
-use Rattle.words.specs.Words.{Bits, value}
+use Rattle.std.proofs.Common.{◌≡◌, ℕ, ◌+◌, ◌*◌, ◌<◌, Bool, true, false, List, [], ◌∷◌, ◌++◌, length, drop, sym, ap, ◌∙◌, ap₂, append_assoc, add-one, arith}
+use Rattle.std.proofs.lemmas.Fmt.{hex_one_digit}
+use Rattle.std.proofs.lemmas.List.{drop-drop, get_or-drop, get_or_append_left}
+use Rattle.std.proofs.Math.Seq.{drop-append_seam}
+use Rattle.std.specs.Fmt.{digit_glyph, digits}
+use Rattle.words.specs.Words.{flags, value}
+use Rattle.words.proofs.Bridge.{value_same}
 use Rattle.records.specs.Lines.{hex}
 
-pub glyph_ascii : (n d : ℕ) → n < 16 → d ≡ digit_glyph true n → d < 128
-glyph_ascii n d h e = go (ltb n 10) refl
-  where
-    go : (b : Bool) → ltb n 10 ≡ b → d < 128
-    go true t = let l = ltb-true n 10 t in let q : digit_glyph true n ≡ 48 + n = ap (λ (b : Bool). cond b (48 + n) (55 + n)) t in omega arith
-    go false t = let q : digit_glyph true n ≡ 55 + n = ap (λ (b : Bool). cond b (48 + n) (55 + n)) t in omega arith
+-- four more of the bits, and what is left of them
+module _ (bits four rest : List Bool) (k : ℕ) (there : drop (4 * k) bits ≡ four ++ rest) (long : length four ≡ 4) where
+  pub bits_left : drop (4 * (k + 1)) bits ≡ rest
+  bits_left =
+      ap (λ (n : ℕ). drop n bits) (omega arith) ∙ sym (drop-drop 4 (4 * k) bits) ∙ ap₂ (λ (n : ℕ) (xs : List Bool). drop n xs) (sym long) there ∙ drop-append_seam four rest
 
-pub hex_more : (before line next added : List ℕ) (u : Bits) (i d n : ℕ) → line ≡ before ++ hex i u → next ≡ line ++ added → added ≡ d ∷ [] → d ≡ digit_glyph true n → n ≡ value 4 (λ t. u (4 * i + t)) → next ≡ before ++ hex (i + 1) u
-unfolding hex
-hex_more before line next added u i d n e f a g v =
-    f ∙ ap₂ ◌++◌ e (a ∙ ap (λ (x : ℕ). x ∷ []) (g ∙ ap (digit_glyph true) v))
-    ∙ append_assoc before (hex i u) (digit_glyph true (value 4 (λ t. u (4 * i + t))) ∷ [])
-    ∙ ap (λ (k : ℕ). before ++ hex k u) (sym (add-one i))
+  pub hex_more : (before line next : List ℕ) (n : ℕ) → line ≡ before ++ hex k (flags bits) → next ≡ line ++ digits 16 true n → n ≡ value 4 (λ t. flags four (0 + t)) → n < 16 → next ≡ before ++ hex (k + 1) (flags bits)
+  unfolding hex
+  hex_more before line next n e f v l =
+      let same : n ≡ value 4 (λ t. flags bits (4 * k + t)) =
+      v ∙ value_same 4 (λ t. flags four (0 + t)) (λ t. flags bits (4 * k + t))
+      (λ t h. ap (flags four) (omega arith) ∙ sym (get_or_append_left four rest false t (omega arith)) ∙ ap (λ (xs : List Bool). flags xs t) (sym there) ∙ get_or-drop (4 * k) bits t false)
+      in
+      f ∙ ap₂ ◌++◌ e (hex_one_digit true n l ∙ ap (λ (m : ℕ). digit_glyph true m ∷ []) same)
+      ∙ append_assoc before (hex k (flags bits)) (digit_glyph true (value 4 (λ t. flags bits (4 * k + t))) ∷ [])
+      ∙ ap (λ (m : ℕ). before ++ hex m (flags bits)) (sym (add-one k))

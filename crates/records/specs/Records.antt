@@ -44,4 +44,4 @@ read_as (records.Bu at r d) = burst r d.now
 -- what reading answers of the input from a place on
 abbrev pub Reads : ℕ → List ℕ → Result Record Fault → Type 0
 Reads place xs (Ok record') = (place_of record' ≡ place) × (head xs ≡ read_as record')
-Reads place xs (Err f) = head xs ≡ broken f.mark f.refusal
+Reads place xs (Err f) = (f.place ≡ place) × (head xs ≡ broken f.mark f.refusal)

@@ -1,93 +1,98 @@
-ghost use Rattle.std.specs.Prelude.{◌≡◌, ℕ, ◌*◌, ◌≤◌, ◌++◌, length, IfOk, Some, string_bytes, codes};
+ghost use Rattle.std.specs.Prelude.{◌≡◌, ℕ, ◌*◌, ◌/◌, ◌≤◌, ◌++◌, length, IfOk, OnOk, Some, string_bytes, codes};
 ghost use Rattle.records.specs.Answers.{line_of_burst, line, newline, text as texted, used};
 ghost use Rattle.records.specs.Lines.{begun, hex};
 ghost use Rattle.records.specs.Records.{head, place_of, read_as};
 ghost use Rattle.standard.specs.Refusals.{burst_rows, first, number};
 ghost use Rattle.words.specs.Words.{flags};
 
-use crate::record::{Mark, Record};
+use crate::record::{Fault, Mark, Record};
 use crate::text::{begin_line, push_hex};
 use coder::BURST_BITS;
 use standard::order::Request;
-use standard::refusal::Refusal;
 use std::alloc::{AllocError, Global};
 
-// The line of a record that is refused.
-fn refused_line(
-    heap: Global,
-    place: usize,
-    mark: Mark,
-    refusal: Refusal,
-) -> Result<String, AllocError>
-    ensures { IfOk result (λ s. string_bytes s ≡ begun place mark (number refusal) ++ newline) }
-{
-    let mut line = begin_line(heap, place, mark, refusal.number())?;
-    line.push('\n')?;
-    Ok(line)
+impl Fault {
+    // Writes the line of the record that is refused.
+    fn answer(self, text: &mut String) -> Result<(), AllocError>
+        ensures { OnOk result (string_bytes text.new ≡ string_bytes text.old ++ (begun self.place self.mark (number self.refusal) ++ newline)) }
+    {
+        begin_line(text, self.place, self.mark, self.refusal.number())?;
+        text.push('\n')
+    }
 }
 
-// The line of a burst that is sent.
-fn sent_line(heap: Global, place: usize, sent: &[bool], digits: usize) -> Result<String, AllocError>
-    requires { 4 * digits ≤ length sent.now }
-    ensures { IfOk result (λ s. string_bytes s ≡ begun place Mark.Bu 0 ++ (codes " " ++ (hex digits (flags sent.now) ++ newline))) }
+// Writes the line of a burst that is sent.
+fn sent_line(text: &mut String, place: usize, sent: &[bool]) -> Result<(), AllocError>
+    ensures { OnOk result (string_bytes text.new ≡ string_bytes text.old ++ (begun place Mark.Bu 0 ++ (codes " " ++ (hex (length sent.now / 4) (flags sent.now) ++ newline)))) }
 {
-    let mut line = begin_line(heap, place, Mark::Bu, 0)?;
-    line.push(' ')?;
-    push_hex(&mut line, sent, digits)?;
-    line.push('\n')?;
-    Ok(line)
+    begin_line(text, place, Mark::Bu, 0)?;
+    text.push(' ')?;
+    push_hex(text, sent)?;
+    text.push('\n')
 }
 
-// The line of a burst.
+// Writes the line of a burst.
 fn burst_line(
-    heap: Global,
+    text: &mut String,
     place: usize,
     request: Request,
     payload: &[u8],
-) -> Result<String, AllocError>
-    ensures { IfOk result (λ s. string_bytes s ≡ line_of_burst place request payload.now (first (burst_rows request (length payload.now)))) }
+) -> Result<(), AllocError>
+    ensures { OnOk result (string_bytes text.new ≡ string_bytes text.old ++ line_of_burst place request payload.now (first (burst_rows request (length payload.now)))) }
 {
     let mut sent = [false; BURST_BITS];
     match coder::burst_bits(request, payload, &mut sent) {
-        Ok(count) => sent_line(heap, place, &sent, count / 4),
-        Err(refusal) => refused_line(heap, place, Mark::Bu, refusal),
+        Ok(count) => sent_line(text, place, &sent[..count]),
+        Err(refusal) => Fault {
+            place,
+            mark: Mark::Bu,
+            refusal,
+        }
+        .answer(text),
     }
 }
 
-// The line of a whole record, and how many bytes it takes.
-fn answer_whole(heap: Global, whole: Record<'_>) -> Result<(String, usize), AllocError>
-    ensures line { IfOk result (λ a. string_bytes a.0 ≡ line (place_of whole.entry) (read_as whole.entry)) }
-    ensures used { IfOk result (λ a. Some a.1 ≡ used (read_as whole.entry)) }
-{
-    match whole {
-        Record::Bu {
-            place,
-            request,
-            payload,
-        } => {
-            let line = burst_line(heap, place, request, payload)?;
-            Ok((line, 9 + payload.len()))
+impl Record<'_> {
+    // How many bytes it takes.
+    fn bytes(self) -> usize
+        ensures { Some result ≡ used (read_as self.entry) }
+    {
+        match self {
+            Record::Bu { payload, .. } => 9 + payload.len(),
+        }
+    }
+
+    // Writes its line.
+    fn answer(self, text: &mut String) -> Result<(), AllocError>
+        ensures { OnOk result (string_bytes text.new ≡ string_bytes text.old ++ line (place_of self.entry) (read_as self.entry)) }
+    {
+        match self {
+            Record::Bu {
+                place,
+                request,
+                payload,
+            } => burst_line(text, place, request, payload),
         }
     }
 }
 
-// The line of the record that begins at a place, and how many bytes it takes; none where the program stops.
+// Writes the line of the record that begins at a place, and says how many bytes it takes; none where the program stops.
 pub fn answer_record(
-    heap: Global,
+    text: &mut String,
     place: usize,
     rest: &[u8],
-) -> Result<(String, Option<usize>), AllocError>
-    ensures line { IfOk result (λ a. string_bytes a.0 ≡ line place (head rest.now)) }
-    ensures used { IfOk result (λ a. a.1 ≡ used (head rest.now)) }
+) -> Result<Option<usize>, AllocError>
+    ensures line { OnOk result (string_bytes text.new ≡ string_bytes text.old ++ line place (head rest.now)) }
+    ensures used { IfOk result (λ bytes. bytes ≡ used (head rest.now)) }
 {
     match Record::read(place, rest) {
-        Ok(whole) => {
-            let (line, used) = answer_whole(heap, whole)?;
-            Ok((line, Some(used)))
+        Ok(record) => {
+            record.answer(text)?;
+            Ok(Some(record.bytes()))
         }
         Err(fault) => {
-            let line = refused_line(heap, place, fault.mark, fault.refusal)?;
-            Ok((line, None))
+            fault.answer(text)?;
+            Ok(None)
         }
     }
 }
@@ -98,13 +103,12 @@ pub fn answer_input(heap: Global, input: &[u8]) -> Result<String, AllocError>
 {
     let mut text = String::new(heap);
     let mut place = 0;
+    // by hand: a record's length is known once it is read, and its line tells its place
     while place < input.len() {
-        let (line, used) = answer_record(heap, place, &input[place..])?;
-        text.push_str(line.as_str())?;
-        match used {
-            Some(bytes) => place += bytes,
-            None => return Ok(text),
-        }
+        let Some(bytes) = answer_record(&mut text, place, &input[place..])? else {
+            break;
+        };
+        place += bytes;
     }
     Ok(text)
 }

@@ -9,6 +9,13 @@ impl<'a> Record<'a> {
     pub fn read(place: usize, rest: &'a [u8]) -> Result<Record<'a>, Fault>
         ensures { Reads place rest.now result }
     {
+        let fault = |mark, refusal| {
+            Err(Fault {
+                place,
+                mark,
+                refusal,
+            })
+        };
         match rest {
             [
                 b'B',
@@ -22,38 +29,19 @@ impl<'a> Record<'a> {
                 low,
                 tail @ ..,
             ] => {
-                let request = Request {
-                    rate: *rate as u32,
-                    bsid: *bsid as u32,
-                    uiuc: *uiuc as u32,
-                    frame: *frame as u32,
-                    symbols: *symbols as u32,
+                let long = usize::from(u16::from_be_bytes([*high, *low]));
+                let Some(payload) = tail.get(..long) else {
+                    return fault(Mark::Bu, Refusal::CutShort);
                 };
-                let long = *high as usize * 256 + *low as usize;
-                if tail.len() < long {
-                    return Err(Fault {
-                        mark: Mark::Bu,
-                        refusal: Refusal::CutShort,
-                    });
-                }
                 Ok(Record::Bu {
                     place,
-                    request,
-                    payload: &tail[0..long],
+                    request: Request::from([*rate, *bsid, *uiuc, *frame, *symbols]),
+                    payload,
                 })
             }
-            [b'B', b'U', ..] => Err(Fault {
-                mark: Mark::Bu,
-                refusal: Refusal::CutShort,
-            }),
-            [_, _, ..] => Err(Fault {
-                mark: Mark::Unknown,
-                refusal: Refusal::UnknownMark,
-            }),
-            _ => Err(Fault {
-                mark: Mark::Unknown,
-                refusal: Refusal::CutShort,
-            }),
+            [b'B', b'U', ..] => fault(Mark::Bu, Refusal::CutShort),
+            [_, _, ..] => fault(Mark::Unknown, Refusal::UnknownMark),
+            _ => fault(Mark::Unknown, Refusal::CutShort),
         }
     }
 }

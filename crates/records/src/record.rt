@@ -2,7 +2,7 @@ use standard::order::Request;
 use standard::refusal::Refusal;
 
 // A whole record, its place being that of its first byte in the input.
-#[derive(Drop)]
+#[derive(Clone, Copy)]
 pub enum Record<'a> {
     // a burst to send
     Bu {
@@ -13,15 +13,16 @@ pub enum Record<'a> {
 }
 
 // A record's mark, as it is printed.
-#[derive(Clone, Copy)]
+#[derive(Clone, Copy, Debug, PartialEq, Eq)]
 pub enum Mark {
     Bu,
     Unknown,
 }
 
 // Why no whole record stands at a place.
-#[derive(Clone, Copy)]
+#[derive(Clone, Copy, Debug, PartialEq, Eq)]
 pub struct Fault {
+    pub place: usize,
     pub mark: Mark,
     pub refusal: Refusal,
 }

@@ -1,11 +1,11 @@
-ghost use Rattle.std.specs.Prelude.{◌≡◌, ℕ, ◌+◌, ◌*◌, ◌<◌, ◌≤◌, true, ◌++◌, length, IfOk, Some, string_bytes, OnOk};
+ghost use Rattle.std.specs.Prelude.{◌≡◌, ℕ, ◌+◌, ◌*◌, ◌/◌, ◌<◌, ◌≤◌, ◌++◌, length, Some, string_bytes, OnOk};
 ghost use Rattle.records.specs.Lines.{begun, hex, named};
-ghost use Rattle.std.specs.Fmt.{digit_glyph};
 ghost use Rattle.words.specs.Words.{flags, value};
 
 use crate::record::Mark;
-use std::alloc::{AllocError, Global};
+use std::alloc::AllocError;
 use std::fmt;
+use std::fmt::Write;
 use words::nibble;
 
 impl fmt::Display for Mark {
@@ -21,37 +21,25 @@ impl fmt::Display for Mark {
     }
 }
 
-// A line's beginning: place, mark and answer, parted by one space.
+// Writes a line's beginning: place, mark and answer, parted by one space.
 pub(crate) fn begin_line(
-    heap: Global,
+    text: &mut String,
     place: usize,
     mark: Mark,
     answer: u8,
-) -> Result<String, AllocError>
-    ensures { IfOk result (λ s. string_bytes s ≡ begun place mark answer) }
+) -> Result<(), AllocError>
+    ensures { OnOk result (string_bytes text.new ≡ string_bytes text.old ++ begun place mark answer) }
 {
-    format!(in heap; "{place} {mark} {answer}")
+    write!(text, "{place} {mark} {answer}")
 }
 
-// A number below sixteen as a hexadecimal capital.
-fn hex_digit(n: u8) -> char
-    requires { n < 16 }
-    ensures { result ≡ digit_glyph true n }
+// Writes the bits, four to a hexadecimal capital.
+#[tactic(auto, unfolding(crate::specs::Lines::hex))]
+pub(crate) fn push_hex(text: &mut String, bits: &[bool]) -> Result<(), AllocError>
+    ensures { OnOk result (string_bytes text.new ≡ string_bytes text.old ++ hex (length bits.now / 4) (flags bits.now)) }
 {
-    if n < 10 {
-        (b'0' + n) as char
-    } else {
-        (b'A' + (n - 10)) as char
-    }
-}
-
-// Adds the first bits, four to a hexadecimal capital.
-pub(crate) fn push_hex(line: &mut String, bits: &[bool], digits: usize) -> Result<(), AllocError>
-    requires { 4 * digits ≤ length bits.now }
-    ensures { OnOk result (string_bytes line.new ≡ string_bytes line.old ++ hex digits (flags bits.now)) }
-{
-    for i in 0..digits {
-        line.push(hex_digit(nibble(bits, 4 * i)))?;
+    for four in bits.chunks_exact(4) {
+        write!(text, "{:X}", nibble(four, 0))?;
     }
     Ok(())
 }

@@ -1,32 +1,18 @@
 -- Filled tables, past their ends too.
 -- Assumes nothing.
-use Rattle.std.proofs.Common.{◌≡◌, ℕ, zero, suc, ◌+◌, ◌*◌, ◌/◌, ◌<◌, ◌≤◌, List, [], ◌∷◌, length, get_or, ap, ⊎_elim, arith}
+use Rattle.std.proofs.Common.{◌≡◌, ℕ, ◌<◌, Bool, true, false, cond, ltb, List, length, get_or, sym, refl, subst, ⊎_elim, arith, ltb-true, ltb-false}
 use Rattle.std.proofs.lemmas.Bool.{cases_lt}
-use Rattle.search_bench.specs.Counted.{Inside, Small}
-use Rattle.search_bench.specs.Heard.{Fair, Low}
-use Rattle.search_bench.specs.Tables.{weight}
+use Rattle.std.proofs.lemmas.List.{get_or_past}
+use Rattle.search_bench.specs.Tables.{weight, total}
 
-past : (xs : List ℕ) (j : ℕ) → length xs ≤ j → get_or xs j 0 ≡ 0
-past [] j h = omega arith
-past (x ∷ xs) zero h = absurd (omega arith)
-past (x ∷ xs) (suc j) h = past xs j (omega arith)
+-- what holds of each element, and of what stands past the end, holds at every place
+pub filled : {A : Type 0} (P : A → Type 0) (xs : List A) (n : ℕ) (d : A) → length xs ≡ n → ((k : ℕ) → k < n → P (get_or xs k d)) → P d → (k : ℕ) → P (get_or xs k d)
+filled P xs n d long each past k = ⊎_elim (each k) (λ h. subst P (sym (get_or_past xs k d (omega arith))) past) (cases_lt k n)
 
-pub inside : (targets : List ℕ) → length targets ≡ 5120 → ((k : ℕ) → k < 5120 → get_or targets k 0 < 2560) → Inside targets
-inside targets long f j = ⊎_elim (f j) (λ h. let e = past targets j (omega arith) in omega arith) (cases_lt j 5120)
-
-pub small : (costs : List ℕ) → length costs ≡ 5120 → ((k : ℕ) → k < 5120 → get_or costs k 0 ≤ 255) → Small costs
-small costs long f j = ⊎_elim (f j) (λ h. let e = past costs j (omega arith) in omega arith) (cases_lt j 5120)
-
-pub low : (totals : List ℕ) → length totals ≡ 256 → ((k : ℕ) → k < 256 → get_or totals k 0 ≡ weight k) → Low totals
-low totals long f j = ⊎_elim (λ h. let e = f j h in omega arith) (λ h. let e = past totals j (omega arith) in omega arith) (cases_lt j 256)
-
-pub fair : (costs totals : List ℕ) → length costs ≡ 8192 → ((k : ℕ) → k < 8192 → get_or costs k 0 ≤ weight (k / 32)) → ((k : ℕ) → k < 256 → get_or totals k 0 ≡ weight k) → Fair costs totals
-fair costs totals long f g kind h few =
-    ⊎_elim
-    (λ l.
-    let c = f (kind * 32 + h) (omega arith) in
-    let t = g kind l in
-    let q : weight ((kind * 32 + h) / 32) ≡ weight kind = ap weight (omega arith) in
-    omega arith)
-    (λ l. let e = past costs (kind * 32 + h) (omega arith) in omega arith)
-    (cases_lt kind 256)
+-- the same of a table by kinds, beside their totals
+pub by_kind : {A : Type 0} (P : ℕ → A → Type 0) (xs : List A) (d : A) → length xs ≡ 256 → ((k : ℕ) → k < 256 → P (weight k) (get_or xs k d)) → P 0 d → (k : ℕ) → P (total k) (get_or xs k d)
+by_kind P xs d long each past k = by (ltb k 256) refl
+  where
+    by : (b : Bool) → ltb k 256 ≡ b → P (cond b (weight k) 0) (get_or xs k d)
+    by true e = each k (ltb-true _ _ e)
+    by false e = let h = ltb-false _ _ e in subst (P 0) (sym (get_or_past xs k d (omega arith))) past

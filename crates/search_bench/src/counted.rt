@@ -1,25 +1,31 @@
-ghost use Rattle.std.specs.Prelude.{ℕ, ◌≤◌};
-ghost use Rattle.paths.specs.Replies.{Enters};
+ghost use Rattle.std.specs.Prelude.{◌≡◌, ℕ, ◌≤◌};
+ghost use Rattle.std.specs.Option.{option_map};
 ghost use Rattle.search_bench.specs.Counted.{Inside, Small, counted as counting};
 ghost use Rattle.search_bench.specs.CountedLaws.{counted_lawful};
 
-use trellis::{Branch, CLOSED_ENTRY, Entry, Trellis};
+use trellis::{Branch, Entry, Trellis};
 
-// A trellis of 2,560 states, its branches in two tables.
+// Where a bit leads from a state, and what it costs.
+#[derive(Clone, Copy)]
+pub struct Step {
+    pub to: u16,
+    pub cost: u8,
+}
+
+// A trellis of 2,560 states, its branches in a table by state and bit.
 #[derive(Drop)]
 pub struct Counted<'a> {
     pub stages: usize,
-    pub targets: &'a [u16; 5120],
-    pub costs: &'a [u8; 5120],
+    pub steps: &'a [[Step; 2]; 2560],
     ghost short: { stages ≤ 7680 },
-    ghost inside: { Inside targets.now },
-    ghost small: { Small costs.now },
+    ghost inside: { Inside steps.now },
+    ghost small: { Small steps.now },
 }
 
 impl Trellis for Counted<'_> {
-    ghost model = { λ x. counting x.stages x.targets.now x.costs.now };
+    ghost model = { λ x. counting x.stages x.steps.now };
 
-    ghost lawful = { λ x. counted_lawful x.stages x.targets.now x.costs.now x.short x.inside x.small };
+    ghost lawful = { λ x. counted_lawful x.stages x.steps.now x.short x.inside x.small };
 
     fn stages(&self) -> usize {
         self.stages
@@ -45,23 +51,19 @@ impl Trellis for Counted<'_> {
         false
     }
 
-    fn branch(&self, stage: usize, state: usize, bit: bool) -> Branch {
-        let at = 2 * state + if bit { 1 } else { 0 };
-        Branch {
-            to: self.targets[at] as usize,
-            cost: self.costs[at] as u32,
-        }
+    fn branch(&self, stage: usize, state: usize, bit: bool) -> Option<Branch> {
+        let step = &self.steps[state][usize::from(bit)];
+        Some(Branch {
+            to: usize::from(step.to),
+            cost: u32::from(step.cost),
+        })
     }
 
     // No path is wanted here, so none is asked for; the answer is the model's all the same.
-    fn entry(&self, stage: usize, state: usize, second: bool) -> Entry
-        ensures { let m = counting self.now.stages self.now.targets.now self.now.costs.now in
-            Enters m.states (m.entry stage state second) result.from result.bit result.cost }
+    fn entry(&self, stage: usize, state: usize, second: bool) -> Option<Entry>
+        ensures { let m = counting self.now.stages self.now.steps.now in
+            option_map (λ e. (e.from, e.bit, e.cost)) result ≡ m.entry stage state second }
     {
-        Entry {
-            from: 0,
-            bit: false,
-            cost: CLOSED_ENTRY,
-        }
+        None
     }
 }

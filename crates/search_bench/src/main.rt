@@ -36,47 +36,31 @@ fn time<T: Trellis>(rt: &HostRuntime, trellis: &T, runs: u32) -> io::Result<u32>
 }
 
 fn time_heard(rt: &HostRuntime, narrow: bool) -> io::Result<u32> {
-    let mut costs = [0u16; 8192];
-    let mut totals = [0u16; 256];
-    tables::fill_heard(&mut costs, &mut totals);
-    let mut kinds = [0u8; PATH_BITS];
-    tables::fill_kinds(&mut kinds);
     let heard = Heard {
-        kinds: &kinds,
-        costs: &costs,
-        totals: &totals,
+        kinds: &tables::kinds(),
+        costs: &tables::costs(),
+        totals: &tables::totals(),
         narrow,
     };
     time(rt, &heard, 1000)
 }
 
 fn time_counted(rt: &HostRuntime) -> io::Result<u32> {
-    let mut targets = [0u16; 5120];
-    tables::fill_targets(&mut targets);
-    let mut costs = [0u8; 5120];
-    tables::fill_charges(&mut costs);
     let counted = Counted {
         stages: PATH_BITS,
-        targets: &targets,
-        costs: &costs,
+        steps: &tables::steps(),
     };
     time(rt, &counted, 50)
 }
 
+fn report(rt: &HostRuntime, searched: &str, nanos: u32) -> io::Result<()> {
+    println!(rt; "{searched}: {nanos} ns for {} stages", PATH_BITS)
+}
+
 fn time_all(rt: &HostRuntime) -> io::Result<()> {
-    let narrow = time_heard(rt, true)?;
-    println!(rt;
-        "64 states, costs in 16 bits: {} ns for 7680 stages",
-        narrow
-    )?;
-    let wide = time_heard(rt, false)?;
-    println!(rt; "64 states, costs in 32 bits: {} ns for 7680 stages", wide)?;
-    let counted = time_counted(rt)?;
-    println!(rt;
-        "2560 states, the cost alone: {} ns for 7680 stages",
-        counted
-    )?;
-    Ok(())
+    report(rt, "64 states, costs in 16 bits", time_heard(rt, true)?)?;
+    report(rt, "64 states, costs in 32 bits", time_heard(rt, false)?)?;
+    report(rt, "2560 states, the cost alone", time_counted(rt)?)
 }
 
 fn main(rt: HostRuntime) -> io::Result<()> {

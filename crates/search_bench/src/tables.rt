@@ -1,64 +1,79 @@
-ghost use Rattle.std.specs.Prelude.{◌≡◌, ℕ, ◌/◌, ◌<◌, ◌≤◌, slice_index};
-ghost use Rattle.search_bench.specs.Counted.{Inside, Small};
-ghost use Rattle.search_bench.specs.Heard.{Fair, Low};
-ghost use Rattle.search_bench.specs.Tables.{weight};
+ghost use Rattle.std.specs.Prelude.{◌≡◌, ℕ, ◌/◌, ◌%◌, ◌<◌, ◌≤◌, Bool, min, slice_index};
+ghost use Rattle.search_bench.specs.Counted.{Inside, Small, by_bit};
+ghost use Rattle.search_bench.specs.Heard.{cost};
+ghost use Rattle.search_bench.specs.Tables.{total, weight};
+
+use crate::counted::Step;
+use std::array;
 
 // The taps of both coded bits among the five middle bits.
-const X_TAPS: u32 = 0b11100;
+const X_TAPS: usize = 0b11100;
 
-const Y_TAPS: u32 = 0b01101;
+const Y_TAPS: usize = 0b01101;
 
-fn total(kind: usize) -> u16
+// A coded bit as it was heard, and what the other costs.
+#[derive(Clone, Copy)]
+struct HeardBit {
+    bit: bool,
+    weight: u16,
+}
+
+impl HeardBit {
+    fn x(kind: usize) -> HeardBit
+        ensures { result.weight ≡ min (kind / 4 % 8) 4 }
+    {
+        HeardBit {
+            bit: kind % 2 == 1,
+            weight: (kind / 4 % 8).min(4) as u16,
+        }
+    }
+
+    fn y(kind: usize) -> HeardBit
+        ensures { result.weight ≡ min (kind / 32) 4 }
+    {
+        HeardBit {
+            bit: kind / 2 % 2 == 1,
+            weight: (kind / 32).min(4) as u16,
+        }
+    }
+
+    fn cost(self, sent: bool) -> u16
+        ensures { result ≤ self.weight }
+    {
+        if sent == self.bit { 0 } else { self.weight }
+    }
+}
+
+fn odd(bits: usize) -> bool {
+    bits.count_ones() % 2 == 1
+}
+
+fn total_of(kind: usize) -> u16
     requires { kind < 256 }
     ensures { result ≡ weight kind }
 {
-    (kind / 4 % 8).min(4) as u16 + (kind / 32).min(4) as u16
+    HeardBit::x(kind).weight + HeardBit::y(kind).weight
 }
 
-fn odd(taps: u32) -> bool {
-    taps.count_ones() % 2 == 1
-}
-
-// What the coded bits of the five middle bits cost where a burst of this kind was heard.
-fn cost(kind: usize, middle: u32) -> u16
+fn costs_of(kind: usize) -> [u16; 32]
     requires { kind < 256 }
-    ensures { result ≤ weight kind }
+    ensures { (h : ℕ) → h < 32 → slice_index result h ≤ weight kind }
 {
-    let x = if odd(middle & X_TAPS) == (kind % 2 == 1) {
-        0
-    } else {
-        (kind / 4 % 8).min(4) as u16
-    };
-    let y = if odd(middle & Y_TAPS) == (kind / 2 % 2 == 1) {
-        0
-    } else {
-        (kind / 32).min(4) as u16
-    };
-    x + y
+    let x = HeardBit::x(kind);
+    let y = HeardBit::y(kind);
+    array::from_fn(|middle| x.cost(odd(middle & X_TAPS)) + y.cost(odd(middle & Y_TAPS)))
 }
 
-fn fill_totals(totals: &mut [u16; 256])
-    ensures { (k : ℕ) → k < 256 → slice_index totals.new k ≡ weight k }
+pub fn totals() -> [u16; 256]
+    ensures { (kind : ℕ) → slice_index result kind ≡ total kind }
 {
-    for k in 0..256usize {
-        totals[k] = total(k);
-    }
+    array::from_fn(total_of)
 }
 
-fn fill_costs(costs: &mut [u16; 8192])
-    ensures { (k : ℕ) → k < 8192 → slice_index costs.new k ≤ weight (k / 32) }
+pub fn costs() -> [[u16; 32]; 256]
+    ensures { (kind h : ℕ) → h < 32 → cost result kind h ≤ total kind }
 {
-    for k in 0..8192usize {
-        costs[k] = cost(k / 32, (k % 32) as u32);
-    }
-}
-
-pub fn fill_heard(costs: &mut [u16; 8192], totals: &mut [u16; 256])
-    ensures fair { Fair costs.new totals.new }
-    ensures low { Low totals.new }
-{
-    fill_costs(costs);
-    fill_totals(totals);
+    array::from_fn(costs_of)
 }
 
 // The state has a register of six bits and a count up to 39.
@@ -77,45 +92,36 @@ fn target(at: usize) -> u16
     (64 * next + at % 64) as u16
 }
 
-fn target_prefix(targets: &mut [u16; 5120])
-    ensures { (k : ℕ) → k < 5120 → slice_index targets.new k < 2560 }
+fn step(at: usize) -> Step
+    requires { at < 5120 }
+    ensures { result.to < 2560 }
 {
-    for k in 0..5120usize {
-        targets[k] = target(k);
+    Step {
+        to: target(at),
+        cost: (at / 3 % 7 % 3) as u8,
     }
 }
 
-pub fn fill_targets(targets: &mut [u16; 5120])
-    ensures { Inside targets.new }
+fn steps_from(state: usize) -> [Step; 2]
+    requires { state < 2560 }
+    ensures inside { (b : Bool) → (by_bit result b).to < 2560 }
+    ensures small { (b : Bool) → (by_bit result b).cost ≤ 255 }
 {
-    target_prefix(targets);
+    [step(2 * state), step(2 * state + 1)]
 }
 
-fn charge(at: usize) -> u8
-    ensures { result ≤ 255 }
+pub fn steps() -> [[Step; 2]; 2560]
+    ensures inside { Inside result }
+    ensures small { Small result }
 {
-    (at / 3 % 7 % 3) as u8
-}
-
-fn charge_prefix(costs: &mut [u8; 5120])
-    ensures { (k : ℕ) → k < 5120 → slice_index costs.new k ≤ 255 }
-{
-    for k in 0..5120usize {
-        costs[k] = charge(k);
-    }
-}
-
-pub fn fill_charges(costs: &mut [u8; 5120])
-    ensures { Small costs.new }
-{
-    charge_prefix(costs);
+    array::from_fn(steps_from)
 }
 
 // Kinds that differ from stage to stage.
-pub fn fill_kinds(kinds: &mut [u8; 7680]) {
+pub fn kinds() -> [u8; 7680] {
     let mut x = 1u32;
-    for k in 0..7680usize {
+    array::from_fn(|_| {
         x = x.wrapping_mul(1664525).wrapping_add(1013904223);
-        kinds[k] = (x >> 24) as u8;
-    }
+        (x >> 24) as u8
+    })
 }

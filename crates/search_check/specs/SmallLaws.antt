@@ -1,31 +1,31 @@
 -- The small trellis keeps the laws.
 -- Assumes nothing.
-use Rattle.std.specs.Prelude.{◌≡◌, ℕ, zero, suc, ◌+◌, ◌*◌, ◌/◌, ◌%◌, ◌<◌, ◌≤◌, Bool, true, false, cond, ◌&&◌, ◌⊎◌, List, Some, None, Option, ◌==◌, refl}
+use Rattle.std.specs.Prelude.{◌≡◌, ℕ, zero, suc, ◌+◌, ◌*◌, ◌/◌, ◌%◌, ◌<◌, ◌≤◌, Bool, true, false, cond, ◌&&◌, ◌⊎◌, Some, None, Option, ◌==◌, refl}
 use Rattle.std.proofs.Common.{sym, ap, subst, ◌∙◌, inl, inr, ⊎_elim, arith, eq-or-lt_of_le, ltb-true, lt-ltb, eqb-true, eq-eqb, ne_eqb}
 use Rattle.std.proofs.lemmas.Bool.{cases_lt, eqb-false}
 use Rattle.paths.specs.Model.{Model, Lawful}
 use Rattle.paths.specs.Registers.{digit, open_if}
 use Rattle.paths.proofs.Paths.{some_inj, cheap_by}
 use Rattle.paths.proofs.Registers.{opened, is_open, digit_low}
-use Rattle.search_check.specs.Small.{cell, lead, toll, leads, count, find, as_entry, free, small}
+use Rattle.search_check.specs.Small.{Cells, Cheap, cell, lead, toll, leads, count, find, as_entry, free, small}
 
 both_are : (a b : Bool) → (a && b) ≡ true → (a ≡ true) × (b ≡ true)
 both_are true b e = (refl, e)
 both_are false b e = let z : ◌≡◌ {A = ℕ} 0 1 = ap (λ x. cond x 1 0) e in absurd (omega arith)
 
-are_both : (a b : Bool) → a ≡ true → b ≡ true → (a && b) ≡ true
+pub are_both : (a b : Bool) → a ≡ true → b ≡ true → (a && b) ≡ true
 are_both a b x y = ap (λ z. z && b) x ∙ y
 
 -- ---- counts rise
-count_more : (cells : List ℕ) (k t j : ℕ) → leads cells k t j ≡ true → count cells k t (suc j) ≡ suc (count cells k t j)
+count_more : (cells : Cells) (k t j : ℕ) → leads cells k t j ≡ true → count cells k t (suc j) ≡ suc (count cells k t j)
 unfolding count
 count_more cells k t j e = let d : digit (leads cells k t j) ≡ 1 = ap digit e in omega arith
 
-count_up : (cells : List ℕ) (k t j : ℕ) → count cells k t j ≤ count cells k t (suc j)
+count_up : (cells : Cells) (k t j : ℕ) → count cells k t j ≤ count cells k t (suc j)
 unfolding count
 count_up cells k t j = omega arith
 
-count_mono : (cells : List ℕ) (k t i j : ℕ) → i ≤ j → count cells k t i ≤ count cells k t j
+count_mono : (cells : Cells) (k t i j : ℕ) → i ≤ j → count cells k t i ≤ count cells k t j
 count_mono cells k t i zero h = let e : i ≡ 0 = omega arith in subst (λ n. count cells k t n ≤ count cells k t 0) (sym e) (omega arith)
 count_mono cells k t i (suc j) h =
     ⊎_elim
@@ -34,12 +34,12 @@ count_mono cells k t i (suc j) h =
     (eq-or-lt_of_le h)
 
 -- ---- what is found
-pub record At (cells : List ℕ) (k t i n j : ℕ) : Type 0 where
+pub record At (cells : Cells) (k t i n j : ℕ) : Type 0 where
   pub low : j < n
   pub there : leads cells k t j ≡ true
   pub nth : count cells k t j ≡ i
 
-pub find_sound : (cells : List ℕ) (k t i n j : ℕ) → find cells k t i n ≡ Some j → At cells k t i n j
+pub find_sound : (cells : Cells) (k t i n j : ℕ) → find cells k t i n ≡ Some j → At cells k t i n j
 unfolding find
 find_sound cells k t i zero j e = let z : ◌≡◌ {A = ℕ} 0 1 = cc in absurd (omega arith)
 find_sound cells k t i (suc n) j e = by (find_sound cells k t i n j) (leads cells k t n && count cells k t n == i) refl e
@@ -51,7 +51,7 @@ find_sound cells k t i (suc n) j e = by (find_sound cells k t i n j) (leads cell
         subst (λ x. At cells k t i (suc n) x) s (record { low = omega arith; there = w.0; nth = eqb-true _ _ w.1 })
     by ih false q h = let r = ih h in record { low = (let l = r.low in omega arith); there = r.there; nth = r.nth }
 
-find_complete : (cells : List ℕ) (k t i n j : ℕ) → At cells k t i n j → find cells k t i n ≡ Some j
+pub find_complete : (cells : Cells) (k t i n j : ℕ) → At cells k t i n j → find cells k t i n ≡ Some j
 unfolding find
 find_complete cells k t i zero j a = let l = a.low in absurd (omega arith)
 find_complete cells k t i (suc n) j a =
@@ -88,7 +88,7 @@ odd_of s false = ne_eqb _ _ (λ q. omega arith)
 half_of : (s : ℕ) (b : Bool) → (2 * s + digit b) / 2 ≡ s
 half_of s b = let d = digit_low b in omega arith
 
-module _ (stages n start ends : ℕ) (cells : List ℕ) (wanted narrow : Bool) (short : stages ≤ 8) (few : n ≤ 8) (inside : start < n) where
+module _ (stages n start ends : ℕ) (cells : Cells) (wanted narrow : Bool) (short : stages ≤ 8) (few : n ≤ 8) (inside : start < n) (cheap : Cheap cells) where
   abbrev model : Model
   model = small stages n start ends cells wanted narrow
 
@@ -172,6 +172,7 @@ module _ (stages n start ends : ℕ) (cells : List ℕ) (wanted narrow : Bool) (
   bounded k s b t c e =
       let o = opened_at k (2 * s + digit b) t c e in
       let x = o.cost in
+      let l = cheap k (2 * s + digit b) in
       (o.low, omega arith)
 
   pub small_lawful : Lawful model

@@ -1,115 +1,97 @@
-use trellis::{CLOSED_BRANCH, Trellis};
+ghost use Rattle.std.specs.Prelude.{◌<◌};
 
-// The places of a path of at most 8 stages.
-pub const PLACES: usize = 9;
+use std::cmp::Ordering;
+use trellis::Trellis;
 
-// The best of all paths: its cost, its bits with the first stage lowest, and how many cost the same.
+// The most stages of a path that is looked at.
+pub const STAGES: usize = 8;
+
+// The places of such a path.
+const PLACES: usize = 9;
+
+// The bit of stage k.
+fn bit(bits: u32, k: usize) -> bool
+    requires { k < 8 }
+{
+    bits >> k as u32 & 1 == 1
+}
+
+// A path that comes to an end. They are compared by the fields in turn, as the search is to: the cheaper one is less,
+// of the same cost that on the lower state at the last place where they differ, and then that with bit 0 at the last bit
+// that differs.
+#[derive(Clone, Copy, PartialEq, Eq, PartialOrd, Ord)]
+pub struct Walk {
+    pub cost: u32,
+    // the last place first
+    states: [usize; PLACES],
+    // the first stage lowest
+    bits: u32,
+}
+
+impl Walk {
+    // The path with these bits, if it is open and comes to an end.
+    fn follow<T: Trellis>(trellis: &T, bits: u32) -> Option<Walk> {
+        let mut state = trellis.start();
+        let mut cost = 0u32;
+        let mut states = [0; PLACES];
+        states[PLACES - 1] = state;
+        for k in 0..trellis.stages() {
+            if k + 1 >= PLACES || state >= trellis.states() {
+                return None;
+            }
+            let branch = trellis.branch(k, state, bit(bits, k))?;
+            state = branch.to;
+            cost = cost.saturating_add(branch.cost);
+            states[PLACES - 2 - k] = state;
+        }
+        if state < trellis.states() && trellis.is_end(state) {
+            Some(Walk { cost, states, bits })
+        } else {
+            None
+        }
+    }
+
+    // Writes the bits of as many stages as there is room for.
+    pub fn write(&self, path: &mut [bool]) {
+        for (k, place) in path.iter_mut().take(STAGES).enumerate() {
+            *place = bit(self.bits, k);
+        }
+    }
+}
+
+// The least of all paths, and how many others cost the same.
 #[derive(Clone, Copy)]
 pub struct Best {
-    pub cost: u32,
-    pub bits: u32,
+    pub walk: Walk,
     pub ties: u32,
 }
 
-// The cost of the path with these bits, if it is open and comes to an end; its states are written.
-fn follow<T: Trellis>(trellis: &T, bits: u32, states: &mut [usize; PLACES]) -> Option<u32> {
-    let mut state = trellis.start();
-    let mut cost = 0u32;
-    states[0] = state;
-    for k in 0..trellis.stages() {
-        if k + 1 >= PLACES || state >= trellis.states() {
-            return None;
-        }
-        let branch = trellis.branch(k, state, bits >> k as u32 & 1 == 1);
-        if branch.cost == CLOSED_BRANCH {
-            return None;
-        }
-        state = branch.to;
-        cost = cost.saturating_add(branch.cost);
-        states[k + 1] = state;
-    }
-    if state < trellis.states() && trellis.is_end(state) {
-        Some(cost)
-    } else {
-        None
-    }
-}
-
-// Whether the one path is before the other: on the lower state at the last place where they differ, and where they
-// never differ with bit 0 at the last bit that does.
-fn is_first(
-    states: &[usize; PLACES],
-    bits: u32,
-    others: &[usize; PLACES],
-    other_bits: u32,
-) -> bool {
-    for back in 0..PLACES {
-        let j = PLACES - 1 - back;
-        if states[j] != others[j] {
-            return states[j] < others[j];
+impl Best {
+    // The best, with one path more.
+    fn or(self, walk: Walk) -> Best {
+        let ties = match walk.cost.cmp(&self.walk.cost) {
+            Ordering::Less => 0,
+            Ordering::Equal => self.ties.saturating_add(1),
+            Ordering::Greater => self.ties,
+        };
+        Best {
+            walk: self.walk.min(walk),
+            ties,
         }
     }
-    bits < other_bits
-}
 
-fn keep(states: &[usize; PLACES], kept: &mut [usize; PLACES]) {
-    for j in 0..PLACES {
-        kept[j] = states[j];
-    }
-}
-
-// Whether a path is better than the best so far.
-fn is_better(
-    cost: u32,
-    bits: u32,
-    states: &[usize; PLACES],
-    best: &Best,
-    kept: &[usize; PLACES],
-) -> bool {
-    if cost == best.cost {
-        is_first(states, bits, kept, best.bits)
-    } else {
-        cost < best.cost
-    }
-}
-
-// Every path of the trellis, one after the other.
-pub fn best_of_all<T: Trellis>(
-    trellis: &T,
-    states: &mut [usize; PLACES],
-    kept: &mut [usize; PLACES],
-) -> Option<Best> {
-    let mut found = false;
-    let mut best = Best {
-        cost: 0,
-        bits: 0,
-        ties: 0,
-    };
-    for bits in 0..256u32 {
-        // the bits past the last stage make no path of their own
-        if bits >> trellis.stages().min(8) as u32 == 0 {
-            match follow(trellis, bits, states) {
-                None => {}
-                Some(cost) => {
-                    let ties = if found && cost == best.cost {
-                        best.ties.saturating_add(1)
-                    } else {
-                        0
-                    };
-                    if !found || is_better(cost, bits, states, &best, kept) {
-                        best = Best { cost, bits, ties };
-                        keep(states, kept);
-                        found = true;
-                    } else if cost == best.cost {
-                        best = Best {
-                            cost: best.cost,
-                            bits: best.bits,
-                            ties,
-                        };
-                    }
-                }
+    // Every path of the trellis, one after the other.
+    pub fn of_all<T: Trellis>(trellis: &T) -> Option<Best> {
+        let mut best: Option<Best> = None;
+        // bits past the last stage would make no path of their own
+        for bits in 0..1u32 << trellis.stages().min(STAGES) as u32 {
+            if let Some(walk) = Walk::follow(trellis, bits) {
+                best = Some(match best {
+                    None => Best { walk, ties: 0 },
+                    Some(b) => b.or(walk),
+                });
             }
         }
+        best
     }
-    if found { Some(best) } else { None }
 }

@@ -1,5 +1,8 @@
+use interleaver::Interleaver;
+use standard::modulation::Modulation;
 use standard::order::Request;
 use standard::profile::InnerRate;
+use standard::shape::Shape;
 
 // What the example asks for.
 pub const BSID: u8 = 1;
@@ -30,7 +33,10 @@ pub const MESSAGE_BYTES: usize = 36;
 
 pub const BLOCK_BYTES: usize = 40;
 
-pub const LIMIT: usize = 2;
+pub const SHAPE: Shape = Shape {
+    size: MESSAGE_BYTES,
+    limit: 2,
+};
 
 // Its inner code, how often that goes through the puncturing table, and the coded bits.
 pub const INNER: InnerRate = InnerRate::FiveSixths;
@@ -42,8 +48,9 @@ pub const SYMBOL_BITS: usize = 384;
 pub const SYMBOL_BYTES: usize = 48;
 
 // Its carriers: QPSK on all sixteen subchannels.
-pub const SUBCHANNELS: usize = 16;
-
-pub const CARRIER_BITS: usize = 2;
+pub const INTERLEAVER: Interleaver = Interleaver {
+    subchannels: 16,
+    modulation: Modulation::Qpsk,
+};
 
 pub const POINTS: usize = 192;

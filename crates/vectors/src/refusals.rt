@@ -2,81 +2,96 @@ use crate::example::{DATA, POINTS, REQUEST};
 use standard::order::Request;
 use standard::point::Point;
 
-// What both axes hold before a call: no point of a burst has it.
-const MARK: i16 = 5;
+// What every point is before a call: no point of a burst is this one.
+const MARKED: Point = Point { i: 5, q: 5 };
 
-// The number of the answer to a request, and 0 where it is accepted.
-fn answer(request: Request, payload: &[u8], points: &mut [Point]) -> u8 {
-    match coder::encode(request, payload, points) {
-        Ok(()) => 0,
-        Err(refusal) => refusal.number(),
-    }
-}
-
-// Whether no point has changed.
-fn kept(points: &[Point]) -> bool {
-    for point in points {
-        if point.i != MARK || point.q != MARK {
-            return false;
-        }
-    }
-    true
-}
-
-// Prints the answer to a request with so many points, and what became of them.
-fn show_answer(
-    rt: &HostRuntime,
-    name: &str,
+// A call of the encoder.
+struct Case {
+    name: &'static str,
     request: Request,
-    payload: &[u8],
+    payload: &'static [u8],
+    // how many points it has room for
     count: usize,
-) -> anyhow::Result<()> {
-    let mut points = vec![in rt.alloc(); Point { i: MARK, q: MARK }; count]?;
-    let number = answer(request, payload, points.as_mut_slice());
-    let after = if kept(points.as_slice()) {
-        "kept"
-    } else {
-        "changed"
-    };
-    println!(rt; "{name}: {number}, {after}")?;
-    Ok(())
+}
+
+const EXAMPLE: Case = Case {
+    name: "example",
+    request: REQUEST,
+    payload: &DATA,
+    count: POINTS,
+};
+
+// The example with one thing wrong.
+const CASES: [Case; 7] = [
+    Case {
+        name: "rate 7",
+        request: Request { rate: 7, ..REQUEST },
+        ..EXAMPLE
+    },
+    Case {
+        name: "bsid 16",
+        request: Request {
+            bsid: 16,
+            ..REQUEST
+        },
+        ..EXAMPLE
+    },
+    Case {
+        name: "0 symbols",
+        request: Request {
+            symbols: 0,
+            ..REQUEST
+        },
+        ..EXAMPLE
+    },
+    Case {
+        name: "9 symbols",
+        request: Request {
+            symbols: 9,
+            ..REQUEST
+        },
+        ..EXAMPLE
+    },
+    Case {
+        name: "36 bytes",
+        payload: &[0; 36],
+        ..EXAMPLE
+    },
+    Case {
+        name: "191 points",
+        count: 191,
+        ..EXAMPLE
+    },
+    Case {
+        name: "193 points",
+        count: 193,
+        ..EXAMPLE
+    },
+];
+
+impl Case {
+    // Prints the answer, 0 where the request is accepted, and what became of the points.
+    fn show(&self, rt: &HostRuntime) -> anyhow::Result<()> {
+        let name = self.name;
+        let mut points = vec![in rt.alloc(); MARKED; self.count]?;
+        let number = coder::encode(self.request, self.payload, &mut points)
+            .err()
+            .map_or(0, |refusal| refusal.number());
+        let after = if points.iter().all(|point| *point == MARKED) {
+            "kept"
+        } else {
+            "changed"
+        };
+        println!(rt; "{name}: {number}, {after}")?;
+        Ok(())
+    }
 }
 
 // Prints the answers to the example with one thing wrong.
 pub fn show(rt: &HostRuntime) -> anyhow::Result<()> {
     println!(rt; "refusals")?;
-    show_answer(rt, "rate 7", Request { rate: 7, ..REQUEST }, &DATA, POINTS)?;
-    show_answer(
-        rt,
-        "bsid 16",
-        Request {
-            bsid: 16,
-            ..REQUEST
-        },
-        &DATA,
-        POINTS,
-    )?;
-    show_answer(
-        rt,
-        "0 symbols",
-        Request {
-            symbols: 0,
-            ..REQUEST
-        },
-        &DATA,
-        POINTS,
-    )?;
-    show_answer(
-        rt,
-        "9 symbols",
-        Request {
-            symbols: 9,
-            ..REQUEST
-        },
-        &DATA,
-        POINTS,
-    )?;
-    show_answer(rt, "36 bytes", REQUEST, &[0; 36], POINTS)?;
-    show_answer(rt, "191 points", REQUEST, &DATA, 191)?;
-    show_answer(rt, "193 points", REQUEST, &DATA, 193)
+    for case in &CASES {
+        case.show(rt)?;
+    }
+    Ok(())
 }

@@ -1,53 +1,49 @@
 use crate::example::{
-    BLOCK_BYTES, BSID, CARRIER_BITS, DATA, DATA_BYTES, FRAME, INNER, LIMIT, MESSAGE_BYTES, PERIODS,
-    POINTS, REQUEST, SUBCHANNELS, SYMBOL_BITS, UIUC,
+    BLOCK_BYTES, BSID, DATA, DATA_BYTES, FRAME, INNER, INTERLEAVER, MESSAGE_BYTES, PERIODS, POINTS,
+    REQUEST, SHAPE, SYMBOL_BITS, UIUC,
 };
 use crate::text::{show_bits, show_bytes, show_points};
 use anyhow::anyhow;
+use scrambler::Register;
 use standard::point::Point;
 use std::alloc::Global;
 
 fn scrambled() -> [u8; DATA_BYTES] {
     let mut bytes = DATA;
-    let register = scrambler::start(BSID, UIUC, FRAME);
-    scrambler::scramble(register, DATA_BYTES, &mut bytes);
+    Register::start(BSID, UIUC, FRAME).scramble(&mut bytes);
     bytes
 }
 
 // What the outer code protects: the scrambled data, and the tail.
 fn with_tail(scrambled: &[u8; DATA_BYTES]) -> [u8; MESSAGE_BYTES] {
     let mut message = [0u8; MESSAGE_BYTES];
-    for (to, from) in message.iter_mut().zip(scrambled.iter()) {
-        *to = *from;
-    }
+    message[..DATA_BYTES].copy_from_slice(scrambled);
     message
 }
 
 fn outer_coded(message: &[u8; MESSAGE_BYTES]) -> [u8; BLOCK_BYTES] {
     let mut block = [0u8; BLOCK_BYTES];
-    outer::encode(MESSAGE_BYTES, LIMIT, 1, message, &mut block);
+    outer::encode(SHAPE, 1, message, &mut block);
     block
 }
 
 fn inner_coded(block: &[u8; BLOCK_BYTES]) -> [bool; SYMBOL_BITS] {
     let mut coded = [false; SYMBOL_BITS];
-    inner::encode(INNER, block, BLOCK_BYTES, PERIODS, &mut coded);
+    inner::encode(INNER, block, PERIODS, &mut coded);
     coded
 }
 
 fn interleaved(coded: &[bool; SYMBOL_BITS]) -> [bool; SYMBOL_BITS] {
     let mut sent = [false; SYMBOL_BITS];
-    interleaver::interleave(SUBCHANNELS, CARRIER_BITS, 1, coded, &mut sent);
+    INTERLEAVER.interleave(1, coded, &mut sent);
     sent
 }
 
 // The points that the whole chain makes of the data.
 fn mapped(heap: Global) -> anyhow::Result<Vec<Point>> {
     let mut points = vec![in heap; Point { i: 0, q: 0 }; POINTS]?;
-    match coder::encode(REQUEST, &DATA, points.as_mut_slice()) {
-        Ok(()) => Ok(points),
-        Err(_) => Err(anyhow!("the example is refused")),
-    }
+    coder::encode(REQUEST, &DATA, &mut points).map_err(|_| anyhow!("the example is refused"))?;
+    Ok(points)
 }
 
 // Prints what each step makes of what the step before it made, from the data on.
@@ -60,6 +56,6 @@ pub fn show(rt: &HostRuntime) -> anyhow::Result<()> {
     let coded = inner_coded(&block);
     show_bits(rt, "inner coded", &coded)?;
     show_bits(rt, "interleaved", &interleaved(&coded))?;
-    show_points(rt, "points", mapped(rt.alloc())?.as_slice())?;
+    show_points(rt, "points", &mapped(rt.alloc())?)?;
     Ok(())
 }

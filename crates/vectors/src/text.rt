@@ -19,11 +19,9 @@ pub fn show_bytes(rt: &impl Print, step: &str, bytes: &[u8]) -> io::Result<()> {
 
 // Eight bits as a byte, the first highest.
 fn packed(eight: &[bool]) -> u8 {
-    let mut byte = 0u8;
-    for bit in eight {
-        byte = (byte << 1) | digit(*bit);
-    }
-    byte
+    eight
+        .iter()
+        .fold(0u8, |byte, bit| (byte << 1) | digit(*bit))
 }
 
 // Prints a step's name, and below it its bits as bytes.

@@ -1,13 +1,9 @@
-use Rattle.std.proofs.Common.{IfOk, Ok, Err, string_bytes, Result}
+use Rattle.std.proofs.Common.{◌≡◌, ◌≤◌, length, ◌++◌, List, ℕ, OnOk, string_bytes, subst, rules}
 use Rattle.records.proofs.Replies.{burst_sent}
 use Rattle.records.proofs.answering.burst_line.Goals as goal
 
-made_also : {X Y : Type 0} (r : Result X Y) (P Q : X → Type 0) → ((x : X) → P x → Q x) → IfOk r P → IfOk r Q
-made_also (Ok x) P Q f h = f x h
-made_also (Err y) P Q f h = h
-
 pub returns-in-Ok : goal.returns-in-Ok
 returns-in-Ok c =
-    made_also c.sent_line.result _ _
-    (λ s e. burst_sent c.args.place c.args.request c.args.payload.now c.burst_bits.new.sent c.in-Ok.count c.in-Ok.ensures.answer c.in-Ok.ensures.count c.in-Ok.ensures.bits (string_bytes s) e)
-    c.sent_line.ensures
+    let room : c.in-Ok.count ≤ length c.burst_bits.new.sent = search rules in
+    subst (λ (xs : List ℕ). OnOk c.sent_line.result (string_bytes c.sent_line.new.text ≡ string_bytes c.args.text.now ++ xs))
+    (burst_sent c.args.place c.args.request c.args.payload.now c.burst_bits.new.sent c.in-Ok.count room c.in-Ok.ensures.answer c.in-Ok.ensures.count c.in-Ok.ensures.bits) c.sent_line.ensures

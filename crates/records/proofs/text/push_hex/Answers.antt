@@ -1,15 +1,17 @@
-use Rattle.std.proofs.Common.{string_bytes, sym, append-nil}
-use Rattle.words.specs.Words.{flags}
-use Rattle.records.specs.Lines.{hex}
-use Rattle.records.proofs.Spelling.{glyph_ascii, hex_more}
+use Rattle.std.proofs.Common.{◌≡◌, [], ◌∷◌, ◌++◌, length, string_bytes, length-append, ◌∙◌, true, rules}
+use Rattle.std.specs.Fmt.{digits}
+use Rattle.records.proofs.Spelling.{bits_left, hex_more}
 use Rattle.records.proofs.text.push_hex.Goals as goal
 
-pub loop-i-init : goal.loop-i-init
-unfolding hex
-loop-i-init c = sym (append-nil (string_bytes c.args.line.now))
-
-pub loop-i-preserved : goal.loop-i-preserved
-loop-i-preserved c =
-    hex_more (string_bytes c.args.line.now) (string_bytes c.loop-i.line) (string_bytes c.push.new.self) _ (flags c.args.bits.now) c.loop-i.i c.hex_digit.result c.nibble.result
-    c.loop-i.invariant c.in_ok-push.ensures.bytes (c.in_ok-push.ensures.ascii (glyph_ascii c.nibble.result c.hex_digit.result c.nibble.ensures.below c.hex_digit.ensures))
-    c.hex_digit.ensures c.nibble.ensures.value
+pub loop-four-preserved : goal.loop-four-preserved
+loop-four-preserved c =
+    let steps = c.in-Some.ensures.steps in
+    let there = c.loop-four.invariant.0 ∙ steps.1.0 in
+    let long = steps.1.1 ∙ c.loop-four.invariant.1 in
+    let added : string_bytes c.write.new.self ≡ string_bytes c.loop-four.text ++ digits 16 true c.nibble.result = search rules in
+    rw (length-append c.loop-four.yielded (c.in-Some.four ∷ [])) (
+      bits_left c.args.bits.now c.in-Some.four.now c.next.new.self.rest.now (length c.loop-four.yielded) there long,
+      steps.0 ∙ c.loop-four.invariant.1,
+      hex_more c.args.bits.now c.in-Some.four.now c.next.new.self.rest.now (length c.loop-four.yielded) there long (string_bytes c.args.text.now) (string_bytes c.loop-four.text)
+          (string_bytes c.write.new.self) c.nibble.result c.loop-four.invariant.2 added c.nibble.ensures.value c.nibble.ensures.below,
+    )
