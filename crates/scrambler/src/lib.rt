@@ -24,7 +24,22 @@ impl Model for Register {
     ghost inverse = { λ n. record { stages = n } };
 }
 
+impl From<Register> for u16 {
+    ghost from_gives = { λ r n. n ≡ r };
+
+    fn from(register: Register) -> u16 {
+        register.stages
+    }
+}
+
 impl Register {
+    pub fn new(stages: u16) -> Register
+        requires { stages < 2 ^ 15 }
+        ensures { result ≡ stages }
+    {
+        Register { stages }
+    }
+
     // The register that a burst starts from.
     pub fn start(bsid: u8, uiuc: u8, frame: u8) -> Register
         requires bsid { bsid ≤ 15 }
@@ -45,7 +60,7 @@ impl Register {
     {
         let fresh = ((self.stages ^ (self.stages >> 1)) % 256) as u8;
         let stages = fresh as u16 * 128 + self.stages / 256;
-        (fresh.reverse_bits(), Register { stages })
+        (fresh.reverse_bits(), Register::new(stages))
     }
 
     // Scrambles the bytes from the register on, and returns the register that is left. To scramble again from the same

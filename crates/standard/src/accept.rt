@@ -1,4 +1,4 @@
-ghost use Rattle.std.specs.Prelude.{◌≡◌, ◌≤◌};
+ghost use Rattle.std.specs.Prelude.{◌≡◌, ◌*◌, ◌≤◌};
 ghost use Rattle.standard.specs.Profiles.{Fitting, profile as profiled};
 ghost use Rattle.standard.specs.Refusals.{Accepted, Read, capacity as capable};
 
@@ -6,6 +6,9 @@ use crate::order::{Order, Request};
 use crate::profile::Profile;
 use crate::profiles::profile_of;
 use crate::refusal::Refusal;
+
+// The data carriers of a symbol.
+const CARRIERS: usize = 192;
 
 // The five bytes of a record that hold a request.
 impl From<[u8; 5]> for Request {
@@ -78,6 +81,13 @@ impl Order {
         ensures { result ≡ self.symbols }
     {
         self.symbols as usize
+    }
+
+    // How many points the burst has.
+    pub fn points(self) -> usize
+        ensures { result ≡ 192 * self.symbols }
+    {
+        CARRIERS * self.symbols()
     }
 
     // How many data bytes the burst carries: its last byte is the tail.

@@ -1,4 +1,5 @@
-//! What the standard fixes for every burst: requests and accepted orders, the seven profiles, modulations, shapes of blocks, points, refusals.
+//! What the standard fixes for every burst: requests and accepted orders, the seven profiles, modulations, shapes of
+//! blocks, points, refusals.
 #![tactic(auto)]
 
 mod accept;

@@ -1,5 +1,8 @@
 ghost use Rattle.std.specs.Prelude.{◌≤◌};
 
+// The most bytes that the blocks of a burst have.
+pub const BLOCK_BYTES: usize = 960;
+
 // What a caller asks for, as raw numbers: nothing is known of them.
 #[derive(Clone, Copy, Debug, PartialEq, Eq)]
 pub struct Request {
@@ -14,8 +17,8 @@ pub struct Request {
     pub symbols: u32,
 }
 
-// An accepted request. Its bounds hold for as long as it exists. The rate stays the number that the rules give it, which
-// is its row of the profile table.
+// An accepted request. Its bounds hold for as long as it exists. The rate is the number that the rules give it: an
+// enum of the seven would only be turned back into its row of the profile table.
 #[derive(Clone, Copy, Debug, PartialEq, Eq)]
 pub struct Order {
     pub(crate) rate: u8,

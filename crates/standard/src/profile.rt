@@ -10,7 +10,7 @@ pub enum InnerRate {
 // A row of the profile table.
 #[derive(Clone, Copy, Debug, PartialEq, Eq)]
 pub struct Profile {
-    // bits per carrier
+    // bits per carrier, a number as in the rules' table; `modulation` names what it stands for
     pub bits: usize,
     // data bytes of a symbol, and bytes after the outer step
     pub message: usize,

@@ -90,6 +90,7 @@ impl Profile {
             1 => Modulation::Bpsk,
             2 => Modulation::Qpsk,
             4 => Modulation::Qam16,
+            // what is asked leaves 6 alone
             _ => Modulation::Qam64,
         }
     }
