@@ -8,12 +8,13 @@ use native.Mathlib.Decide.{dec_lt, ℕ_discrete}
 use native.Mathlib.Nat.{div-add-mod}
 use Rattle.words.specs.Words.{Bits, flags, value}
 use Rattle.words.proofs.Bridge.{value_same, value_below}
+use Rattle.words.proofs.Numbers.{part_length}
 use Rattle.standard.specs.Profiles.{Modulation}
 use Rattle.standard.specs.declared.point.Point.{Point}
 use Rattle.constellation.specs.Constellation.{width, in_phase, quadrature, point, origin}
 use Rattle.constellation.specs.Decisions.{Decided, Heard, Decisions}
 use Rattle.constellation.specs.Steps.{Kept, AxisHeard, PointHeard}
-use Rattle.constellation.proofs.Mapping.{part_length, width_of, value_one, q_is}
+use Rattle.constellation.proofs.Mapping.{width_of, value_one, q_is}
 use Rattle.constellation.proofs.Nearness.{decided_some, decided_one, decided_own}
 
 -- ---- one axis

@@ -10,6 +10,7 @@ ghost use Rattle.words.specs.Words.{flags, value};
 
 use standard::modulation::Modulation;
 use standard::point::Point;
+use words::number;
 
 // The levels of an axis by their bits, Gray coded: neighbouring levels differ in one bit.
 const ONE_BIT: [i16; 2] = [256, -256];
@@ -37,25 +38,12 @@ fn has_quadrature(modulation: Modulation) -> bool
     !matches!(modulation, Modulation::Bpsk)
 }
 
-// The bits read as a number, highest first.
-fn read_bits(bits: &[bool]) -> usize
-    requires { length bits.now ≤ 3 }
-    ensures value { result ≡ value (length bits.now) (flags bits.now) }
-    ensures below { result < 2 ^ length bits.now }
-{
-    let mut v = 0;
-    for &bit in bits {
-        v = v * 2 + usize::from(bit);
-    }
-    v
-}
-
 // The level of the bits of an axis, from `at` on.
 fn axis_at(modulation: Modulation, sent: &[bool], at: usize) -> i16
     requires { at + wide (carrier_bits modulation) ≤ length sent.now }
     ensures { result ≡ level (wide (carrier_bits modulation)) (value (wide (carrier_bits modulation)) (λ u. flags sent.now (at + u))) }
 {
-    let v = read_bits(&sent[at..at + modulation.axis_bits()]);
+    let v = number(&sent[at..at + modulation.axis_bits()]);
     levels(modulation)[v]
 }
 

@@ -1,8 +1,11 @@
 -- One turn of the loops over rows and blocks.
 -- Assumes nothing.
-use Rattle.std.proofs.Common.{◌≡◌, ℕ, suc, ◌+◌, ◌<◌, ◌≤◌, ◌≢◌, Bool, false, eqb, List, length, get_or, take, set, sym, refl, ap, ◌∙◌, ap₂, le_refl, add-one, arith, eq-eqb, ne_eqb, get_or-set_other, get_or-set_same, below_more}
+use Rattle.std.proofs.Common.{◌≡◌, ℕ, zero, suc, ◌+◌, ◌<◌, ◌≤◌, ◌≢◌, Bool, true, false, eqb, [], ◌∷◌, Option, Some, None, List, rules, length, get_or, take, set, sym, refl, ap, ◌∙◌, ap₂, le_refl, add-one, arith, eq-eqb, ne_eqb, get_or-set_other, get_or-set_same, below_more}
 use native.Mathlib.Decide.{dec_le}
 use Rattle.std.proofs.lemmas.List.{length-take-le, get_or-take}
+use Rattle.std.proofs.lemmas.List.Quantifiers.{position-Some}
+use Rattle.std.specs.List.{position}
+use Rattle.std.specs.Option.{IsSome}
 use lib.Bits.{bit_xor}
 use Rattle.field.specs.Field.{◌⊕◌, ◌⊗◌}
 use Rattle.outer_code.proofs.Filled as F
@@ -55,13 +58,26 @@ unfolding applied
 applied_from limit rows r s j v ys from e =
     e ∙ sum_same (suc limit) (λ l. at rows r l ⊗ get_or ys l 0) (λ l. at rows r l ⊗ get_or s (j + l) 0) (λ l h. ap (λ (y : ℕ). at rows r l ⊗ y) (from l (omega arith)))
 
--- no row was left so far
-pub none_left : (n r : ℕ) (left : List Bool) → ((k : ℕ) → k < r → flags left k ≡ false) → n ≤ r → left_in n left ≡ 0
+-- no row is left before the first that is
+none_left : (n r : ℕ) (left : List Bool) → ((k : ℕ) → k < r → flags left k ≡ false) → n ≤ r → left_in n left ≡ 0
 none_left n r left h few = count_none n (λ k. digit (flags left k)) (λ k l. ap digit (h k (omega arith)))
 
-pub row_left : (limit r : ℕ) (left : List Bool) → ((k : ℕ) → k < r → flags left k ≡ false) → 0 < left_in (suc limit) left → r ≤ limit
-row_left limit r left h some =
+pub row_left : (limit : ℕ) (left : List Bool) (r : ℕ) → position (λ (b : Bool). b) left ≡ Some r → 0 < left_in (suc limit) left → r ≤ limit
+row_left limit left r e some =
+    let first = (position-Some (λ (b : Bool). b) left r false e).2 in
     elim (dec_le r limit) [
       | yes y ↦ y
-      | no n ↦ absurd (let e : left_in (suc limit) left ≡ 0 = none_left (suc limit) r left h (omega (arith, n)) in omega arith)
+      | no n ↦ absurd (let z : left_in (suc limit) left ≡ 0 = none_left (suc limit) r left first (omega (arith, n)) in omega arith)
     ]
+
+-- a row is left
+none_true : (left : List Bool) → None ≡ position (λ (b : Bool). b) left → (k : ℕ) → flags left k ≡ false
+none_true [] e k = refl
+none_true (true ∷ left) e k = absurd (search (rules, e))
+none_true (false ∷ left) e zero = refl
+none_true (false ∷ left) e (suc k) = none_true left (search (rules, e)) k
+
+pub some_left : (limit : ℕ) (left : List Bool) (p : Option ℕ) → p ≡ position (λ (b : Bool). b) left → 0 < left_in (suc limit) left → IsSome p
+some_left limit left None e some =
+    absurd (let z : left_in (suc limit) left ≡ 0 = none_left (suc limit) (suc limit) left (λ k l. none_true left e k) (le_refl (suc limit)) in omega arith)
+some_left limit left (Some r) e some = search rules

@@ -28,7 +28,7 @@ fn add_values(values: &mut [u8], locator: &[u8])
     }
 }
 
-// The locator's values at the powers of 02 that a block has.
+// The locator's values at the powers of 02 that a block has: the first of 255 bytes, a fixed array since nothing is allocated.
 fn values_of(locator: &[u8; 9], shape: Shape) -> [u8; 255]
     ensures { (m : ℕ) → m < 2 * shape.limit + shape.size → slice_index result m ≡ sum (suc shape.limit) (λ l. slice_index_or locator.now l 0 ⊗ gpow (gexp m) l) }
 {
@@ -39,7 +39,8 @@ fn values_of(locator: &[u8; 9], shape: Shape) -> [u8; 255]
     values
 }
 
-// Marks each byte of a block with the locator's value for it: where it is 0, the byte may be wrong.
+// Marks each byte of a block with the locator's value for it: where it is 0, the byte may be wrong. The lengths of what is
+// written, here and in `find`, and the bound of a place `k` stay clauses: a type for either would be made for the one call.
 pub(crate) fn mark(marks: &mut [u8], locator: &[u8; 9], shape: Shape)
     requires { length marks.old ≡ 2 * shape.limit + shape.size }
     ensures { (k : ℕ) → k < 2 * shape.limit + shape.size → slice_index marks.new k ≡ sum (suc shape.limit) (λ l. slice_index_or locator.now l 0 ⊗ gpow (X (2 * shape.limit) (2 * shape.limit + shape.size) k) l) }

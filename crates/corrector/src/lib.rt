@@ -15,7 +15,7 @@ ghost use Rattle.words.specs.Words.{part, word};
 use errors::{Findings, mark};
 use locator::locator;
 use standard::shape::Shape;
-use syndromes::syndromes;
+use syndromes::Block;
 
 fn all_zero(bytes: &[u8]) -> bool
     ensures yes { result ≡ true → (j : ℕ) → j < length bytes.now → slice_index bytes.now j ≡ 0 }
@@ -30,28 +30,19 @@ fn nonzero(bytes: &[u8]) -> usize
     bytes.iter().filter(|b| **b != 0).count()
 }
 
-// The errors have the syndromes that are given, so that without them the block is an outer word.
-fn explain(errors: &[u8], given: &[u8; 16], shape: Shape) -> bool
-    requires { length errors.now ≡ 2 * shape.limit + shape.size }
-    ensures yes { result ≡ true → (j : ℕ) → j < 2 * shape.limit → slice_index given.now j ≡ syndrome (2 * shape.limit) (2 * shape.limit + shape.size) (word errors.now) j }
-    ensures no { result ≡ false → ((j : ℕ) → j < 2 * shape.limit → slice_index given.now j ≡ syndrome (2 * shape.limit) (2 * shape.limit + shape.size) (word errors.now) j) → ⊥ }
-{
-    let explained = syndromes(errors, shape);
-    let parity = shape.parity();
-    given[..parity] == explained[..parity]
-}
-
 // Adds its error to each byte of a block.
 fn add_errors(block: &mut [u8], errors: &[u8])
     requires { length errors.now ≡ length block.old }
     ensures { (k : ℕ) → k < length block.old → slice_index block.new k ≡ slice_index_or block.old k 0 ⊕ slice_index_or errors.now k 0 }
 {
+    // by index: after a `zip` with `iter_mut` a proof knows no element
     for (k, byte) in block.iter_mut().enumerate() {
         *byte ^= errors[k];
     }
 }
 
-// What `correct` does, given the syndromes of the block, whether they vanish or not.
+// What `correct` does, given the syndromes of the block, whether they vanish or not. `within` and `long` stay clauses: a type
+// for the limit or for the written block would be made for the one call and taken apart here.
 fn repair(block: &mut [u8], given: &[u8; 16], shape: Shape, most: usize) -> Option<usize>
     requires long { length block.old ≡ 2 * shape.limit + shape.size }
     requires within { most ≤ shape.limit }
@@ -60,6 +51,7 @@ fn repair(block: &mut [u8], given: &[u8; 16], shape: Shape, most: usize) -> Opti
         (λ wrong. Corrected shape.size shape.limit most block.old block.new wrong) }
 {
     let coefficients = locator(given, shape);
+    // fixed arrays of the longest block, since nothing is allocated
     let mut marks = [0; 255];
     let marks = &mut marks[..block.len()];
     mark(marks, &coefficients, shape);
@@ -72,7 +64,11 @@ fn repair(block: &mut [u8], given: &[u8; 16], shape: Shape, most: usize) -> Opti
     };
     findings.find(errors);
     let wrong = nonzero(errors);
-    if wrong <= most && explain(errors, given, shape) {
+    let found = Block {
+        bytes: errors,
+        shape,
+    };
+    if wrong <= most && found.explains(given) {
         add_errors(block, errors);
         Some(wrong)
     } else {
@@ -88,7 +84,11 @@ pub fn correct(block: &mut [u8], shape: Shape, most: usize) -> Option<usize>
     ensures { MatchOption result (Refused shape.size shape.limit most block.old block.new)
         (λ wrong. Corrected shape.size shape.limit most block.old block.new wrong) }
 {
-    let given = syndromes(block, shape);
+    let given = Block {
+        bytes: block,
+        shape,
+    }
+    .syndromes();
     if all_zero(&given[..shape.parity()]) {
         return Some(0);
     }

@@ -1,4 +1,4 @@
-ghost use Rattle.std.specs.Prelude.{◌≡◌, ℕ, suc, ◌+◌, ◌-◌, ◌*◌, ◌<◌, ◌≤◌, ◌≢◌, ◌==◌, List, true, length, slice_index, slice_index_or};
+ghost use Rattle.std.specs.Prelude.{◌≡◌, ℕ, suc, ◌+◌, ◌-◌, ◌*◌, ◌<◌, ◌≤◌, ◌≢◌, ◌==◌, List, true, length, position, slice_index, slice_index_or};
 ghost use Rattle.field.specs.Field.{◌⊕◌, ◌⊗◌};
 ghost use Rattle.outer_theory.proofs.Rows.{Reduced, Swept, applied, at, left_in};
 ghost use Rattle.outer_theory.specs.Sums.{sum};
@@ -14,8 +14,8 @@ fn combine(row: &[u8; 9], syndromes: &[u8], shape: Shape) -> u8
     ensures { result ≡ sum (suc shape.limit) (λ l. slice_index_or row.now l 0 ⊗ slice_index_or syndromes.now l 0) }
 {
     let mut sum = 0;
-    for (l, coefficient) in row[..shape.limit + 1].iter().enumerate() {
-        sum ^= mul(*coefficient, syndromes[l]);
+    for (coefficient, syndrome) in row[..shape.limit + 1].iter().zip(syndromes) {
+        sum ^= mul(*coefficient, *syndrome);
     }
     sum
 }
@@ -24,6 +24,7 @@ fn combine(row: &[u8; 9], syndromes: &[u8], shape: Shape) -> u8
 fn add_multiple(row: &mut [u8; 9], other: &[u8; 9], factor: u8)
     ensures { (l : ℕ) → l < 9 → slice_index row.new l ≡ slice_index_or row.old l 0 ⊕ (factor ⊗ slice_index_or other.now l 0) }
 {
+    // by index: after a `zip` with `iter_mut` a proof knows no element
     for (l, coefficient) in row.iter_mut().enumerate() {
         *coefficient ^= mul(factor, other[l]);
     }
@@ -43,6 +44,13 @@ fn unit_rows() -> [[u8; 9]; 9]
     array::from_fn(unit_row)
 }
 
+// The first place that is true.
+fn first_true(flags: &[bool; 9]) -> Option<usize>
+    ensures { result ≡ position (λ flag. flag) flags.now }
+{
+    flags.iter().position(|flag| *flag)
+}
+
 // An equation that a locator's coefficients meet: they combine the T + 1 syndromes from the `first` on to 0.
 #[derive(Drop)]
 struct Equation {
@@ -52,7 +60,8 @@ struct Equation {
     ghost within: { first < shape.limit },
 }
 
-// Rows of coefficients, and which of them are left.
+// Rows of coefficients, and which of them are left. With `[Option<[u8; 9]>; 9]` for both, `clear` would unwrap two rows that
+// are known to be there, and the end a third.
 #[derive(Drop)]
 struct Elimination {
     rows: [[u8; 9]; 9],
@@ -105,6 +114,7 @@ impl Elimination {
         ensures swept { Swept equation.now.shape.limit self.new.rows self.new.left equation.now.syndromes equation.now.first (equation.now.shape.limit + 1) result }
     {
         let mut pivot = None;
+        // `r` is the pivot's number too, and `clear` writes all rows
         for r in 0..equation.shape.limit + 1 {
             if self.left[r] && self.apply(r, equation) != 0 {
                 match pivot {
@@ -132,12 +142,7 @@ impl Elimination {
         ensures row { result ≤ shape.limit }
         ensures left { flags self.now.left result ≡ true }
     {
-        for (r, left) in self.left.iter().enumerate() {
-            if *left {
-                return r;
-            }
-        }
-        unreachable()
+        first_true(&self.left).unwrap()
     }
 }
 

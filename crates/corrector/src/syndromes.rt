@@ -1,4 +1,4 @@
-ghost use Rattle.std.specs.Prelude.{◌≡◌, ℕ, ◌+◌, ◌-◌, ◌*◌, ◌<◌, length, slice_index, slice_index_or};
+ghost use Rattle.std.specs.Prelude.{◌≡◌, ℕ, ◌+◌, ◌-◌, ◌*◌, ◌<◌, true, false, length, slice_index, slice_index_or};
 ghost use Rattle.field.specs.Field.{◌⊕◌, ◌⊗◌, gexp, gpow};
 ghost use Rattle.outer_theory.proofs.Products.{product};
 ghost use Rattle.outer_theory.specs.Syndromes.{V, X, place as placed, syndrome, weight};
@@ -29,7 +29,8 @@ const TRIANGLES: [u8; 17] = [
     0, 0, 1, 3, 6, 10, 15, 21, 28, 36, 45, 55, 66, 78, 91, 105, 120,
 ];
 
-// The power of x whose coefficient byte `k` of a block is, counted from the lowest that is sent.
+// The power of x whose coefficient byte `k` of a block is, counted from the lowest that is sent. That a place lies in the block
+// is a clause here and below: a type for a place would be made anew for each byte.
 pub(crate) fn place(shape: Shape, k: usize) -> usize
     requires { k < 2 * shape.limit + shape.size }
     ensures is { result ≡ placed (2 * shape.limit) (2 * shape.limit + shape.size) k }
@@ -96,23 +97,41 @@ fn add_byte(syndromes: &mut [u8], byte: u8, shape: Shape, k: usize)
     }
 }
 
-// Adds the weighted syndromes of a block.
-fn add_bytes(syndromes: &mut [u8], block: &[u8], shape: Shape)
-    requires { length block.now ≡ 2 * shape.limit + shape.size }
-    ensures { (j : ℕ) → j < length syndromes.old → slice_index syndromes.new j ≡ slice_index_or syndromes.old j 0 ⊕ syndrome (2 * shape.limit) (2 * shape.limit + shape.size) (word block.now) j }
-{
-    for (k, byte) in block.iter().enumerate() {
-        add_byte(syndromes, *byte, shape, k);
-    }
+// A block that is only read.
+#[derive(Clone, Copy)]
+pub(crate) struct Block<'a> {
+    pub(crate) bytes: &'a [u8],
+    pub(crate) shape: Shape,
+    ghost long: { length bytes.now ≡ 2 * shape.limit + shape.size },
 }
 
-// The weighted syndromes of a block: the first 2T of sixteen bytes, a fixed array since nothing is allocated.
-pub(crate) fn syndromes(block: &[u8], shape: Shape) -> [u8; 16]
-    requires { length block.now ≡ 2 * shape.limit + shape.size }
-    ensures { (j : ℕ) → j < 2 * shape.limit → slice_index result j ≡ syndrome (2 * shape.limit) (2 * shape.limit + shape.size) (word block.now) j }
-{
-    let parity = shape.parity();
-    let mut sums = [0; 16];
-    add_bytes(&mut sums[..parity], block, shape);
-    sums
+impl Block<'_> {
+    // Adds its weighted syndromes.
+    fn add_to(&self, syndromes: &mut [u8])
+        ensures { (j : ℕ) → j < length syndromes.old → slice_index syndromes.new j ≡ slice_index_or syndromes.old j 0 ⊕ syndrome (2 * self.now.shape.limit) (2 * self.now.shape.limit + self.now.shape.size) (word self.now.bytes.now) j }
+    {
+        for (k, byte) in self.bytes.iter().enumerate() {
+            add_byte(syndromes, *byte, self.shape, k);
+        }
+    }
+
+    // Its weighted syndromes: the first 2T of sixteen bytes, a fixed array since nothing is allocated.
+    pub(crate) fn syndromes(&self) -> [u8; 16]
+        ensures { (j : ℕ) → j < 2 * self.now.shape.limit → slice_index result j ≡ syndrome (2 * self.now.shape.limit) (2 * self.now.shape.limit + self.now.shape.size) (word self.now.bytes.now) j }
+    {
+        let parity = self.shape.parity();
+        let mut sums = [0; 16];
+        self.add_to(&mut sums[..parity]);
+        sums
+    }
+
+    // Whether these errors have the syndromes that are given, so that without them a block is an outer word.
+    pub(crate) fn explains(&self, given: &[u8; 16]) -> bool
+        ensures yes { result ≡ true → (j : ℕ) → j < 2 * self.now.shape.limit → slice_index given.now j ≡ syndrome (2 * self.now.shape.limit) (2 * self.now.shape.limit + self.now.shape.size) (word self.now.bytes.now) j }
+        ensures no { result ≡ false → ((j : ℕ) → j < 2 * self.now.shape.limit → slice_index given.now j ≡ syndrome (2 * self.now.shape.limit) (2 * self.now.shape.limit + self.now.shape.size) (word self.now.bytes.now) j) → ⊥ }
+    {
+        let explained = self.syndromes();
+        let parity = self.shape.parity();
+        given[..parity] == explained[..parity]
+    }
 }

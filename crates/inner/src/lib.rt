@@ -7,11 +7,9 @@ ghost use Rattle.inner.specs.Outputs.{bit, kept, offset as offset_of, x_in, y_in
 ghost use Rattle.standard.specs.Profiles.{period as periodic, punctured};
 ghost use Rattle.words.specs.Words.{bits, word};
 
+use standard::order::BLOCK_BYTES;
 use standard::profile::{Coded, InnerRate};
 use words::bit_at;
-
-// The bytes of the longest burst.
-const LONGEST: usize = 960;
 
 // X and Y at eight places at once. The window holds their eight input bits and the six before, the newest lowest.
 fn window_outputs(window: u16) -> (u8, u8)
@@ -23,11 +21,11 @@ fn window_outputs(window: u16) -> (u8, u8)
     ((x % 256) as u8, (y % 256) as u8)
 }
 
-// X and Y at every place of a burst, as bytes again.
+// X and Y at every place of a burst, as bytes again; not in pairs, since an entry of the puncturing takes one row whole.
 #[derive(Drop)]
 struct Outputs {
-    xs: [u8; LONGEST],
-    ys: [u8; LONGEST],
+    xs: [u8; BLOCK_BYTES],
+    ys: [u8; BLOCK_BYTES],
 }
 
 // Where an entry of the puncturing table finds its bits.
@@ -40,12 +38,12 @@ struct Source<'a> {
 
 impl Outputs {
     fn of(bytes: &[u8]) -> Outputs
-        requires { length bytes.now ≤ LONGEST }
+        requires { length bytes.now ≤ BLOCK_BYTES }
         ensures x { (k : ℕ) → k < 8 * length bytes.now → bits (word result.xs) k ≡ x_output (bits (word bytes.now)) k }
         ensures y { (k : ℕ) → k < 8 * length bytes.now → bits (word result.ys) k ≡ y_output (bits (word bytes.now)) k }
     {
-        let mut xs = [0; LONGEST];
-        let mut ys = [0; LONGEST];
+        let mut xs = [0; BLOCK_BYTES];
+        let mut ys = [0; BLOCK_BYTES];
         let mut window: u16 = 0;
         for (i, byte) in bytes.iter().enumerate() {
             window = (window % 64) * 256 + *byte as u16;
@@ -55,7 +53,7 @@ impl Outputs {
     }
 
     fn source<'a>(&'a self, entry: Coded) -> Source<'a>
-        ensures long { length result.outputs.now ≡ LONGEST }
+        ensures long { length result.outputs.now ≡ BLOCK_BYTES }
         ensures place { result.place ≡ offset_of entry }
         ensures kept { (k : ℕ) → bits (word result.outputs.now) (k + result.place) ≡ kept (bits (word self.now.xs)) (bits (word self.now.ys)) k entry }
     {
@@ -72,7 +70,7 @@ impl Outputs {
 
     // The coded bits of every period: those that the puncturing keeps.
     fn puncture(&self, rate: InnerRate, periods: usize, coded: &mut [bool])
-        requires held { periodic rate * periods ≤ 8 * LONGEST }
+        requires held { periodic rate * periods ≤ 8 * BLOCK_BYTES }
         requires room { (periodic rate + 1) * periods ≤ length coded.old }
         ensures punctured { (q i : ℕ) → q < periods → i ≤ periodic rate → get_or coded.new ((periodic rate + 1) * q + i) false ≡ kept (bits (word self.now.xs)) (bits (word self.now.ys)) (periodic rate * q) (get_or (punctured rate) i Coded.X1) }
         ensures past { (j : ℕ) → (periodic rate + 1) * periods ≤ j → get_or coded.new j false ≡ get_or coded.old j false }
@@ -95,13 +93,15 @@ impl Source<'_> {
         ensures spread { (q : ℕ) → q < periods → get_or coded.new ((period + 1) * q + index) false ≡ bits (word self.entry.outputs.now) (period * q + self.entry.place) }
         ensures rest { (j : ℕ) → ((q : ℕ) → q < periods → j ≡ (period + 1) * q + index → ⊥) → get_or coded.new j false ≡ get_or coded.old j false }
     {
+        // by number: it goes in strides of two lengths, the period and one more
         for q in 0..periods {
             coded[(period + 1) * q + index] = bit_at(self.outputs, period * q + self.place);
         }
     }
 }
 
-// The coded bits of the bytes, which are whole periods. What stands past them is left as it is.
+// The coded bits of the bytes, which are whole periods. What stands past them is left as it is. The caller gives the periods,
+// of which the contract speaks: here they would be the length divided again by the rate.
 pub fn encode(rate: InnerRate, bytes: &[u8], periods: usize, coded: &mut [bool])
     requires short { length bytes.now ≤ 960 }
     requires whole { 8 * length bytes.now ≡ periodic rate * periods }

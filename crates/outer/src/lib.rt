@@ -81,6 +81,7 @@ pub fn encode(shape: Shape, count: usize, message: &[u8], coded: &mut [u8])
 {
     let size = shape.size;
     let block = shape.block();
+    // by number: after `chunks_exact_mut` a proof knows no element
     for b in 0..count {
         let message = &message[size * b..size * b + size];
         encode_block(shape, message, &mut coded[block * b..block * b + block]);

@@ -2,7 +2,7 @@ use Rattle.std.proofs.Common.{◌≡◌, ℕ, length, ◌∙◌}
 use Rattle.std.proofs.lemmas.Int.{to_z-of_z}
 use Rattle.standard.specs.Modulations.{carrier_bits}
 use Rattle.constellation.specs.Constellation.{width}
-use Rattle.constellation.proofs.Mapping.{part_length}
+use Rattle.words.proofs.Numbers.{part_length}
 use Rattle.constellation.proofs.Hearing.{axis_heard}
 use Rattle.constellation.proofs.hear_axis.Goals as goal
 

@@ -2,7 +2,7 @@ use Rattle.std.proofs.Common.{◌≡◌, true, false, length, take, sym, ◌∙�
 use Rattle.std.proofs.lemmas.Slice.Eq.{slice_eq-Decides}
 use Rattle.std.proofs.lemmas.Bool.Decides.{Decides-eqb}
 use Rattle.corrector.proofs.Slices.{same_taken, taken_same}
-use Rattle.corrector.proofs.explain.Goals as goal
+use Rattle.corrector.proofs.syndromes.Block.explains.Goals as goal
 
 pub returns-clause-yes : goal.returns-clause-yes
 returns-clause-yes c e j l =
