@@ -14,7 +14,7 @@ const TAIL: usize = 8;
 // The trellis of the inner words, which charges each heard bit that a word would have otherwise.
 #[derive(Drop)]
 pub(crate) struct ReceiveTrellis<'a> {
-    // for the model alone
+    // for the model alone; kept at run time, since a ghost field states a fact and holds no value
     pub(crate) period: usize,
     pub(crate) heard: &'a [bool],
     // what of it is each stage's, and what each window costs there

@@ -19,7 +19,8 @@ struct Stage<'a, T: Trellis> {
 }
 
 impl<T: Trellis> Stage<'_, T> {
-    // Follows one branch, if it is open.
+    // Follows one branch, if it is open. That `next` has a place for each state is a clause here and below: the two rows change
+    // places at each stage, and a struct for the written one would be made anew.
     fn push(&self, s: usize, bit: bool, next: &mut [u64])
         requires low { s < (T.model self.now.trellis.now).states }
         requires long { (T.model self.now.trellis.now).states ≤ length next.old }

@@ -8,6 +8,7 @@ pub(crate) fn best_end<T: Trellis>(trellis: &T, row: &[u64]) -> Option<usize>
     requires { (T.model trellis.now).states ≤ length row.now }
     ensures { End (T.model trellis.now) row.now (T.model trellis.now).states result }
 {
+    // beside the option, so that one comparison serves both "no path" and "not less"
     let mut least = NO_PATH;
     let mut best = None;
     for (t, cost) in row[..trellis.states()].iter().enumerate() {

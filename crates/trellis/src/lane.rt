@@ -54,6 +54,7 @@ pub(crate) fn select<L: Lane>(a: &Row<L>, b: &Row<L>, next: &mut Row<L>) -> u64
     ensures { Selected (values L.Lane.value a.now) (values L.Lane.value b.now) (values L.Lane.value next.new) result }
 {
     let mut word = 0u64;
+    // by number, which places the bits too
     for g in 0..LANES / CHUNK {
         let at = CHUNK * g;
         word |= L::select_chunk(a, b, next, at) << at as u32;

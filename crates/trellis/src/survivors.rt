@@ -75,7 +75,8 @@ impl<T: Trellis, L: Lane> Stage<'_, T, L> {
     }
 }
 
-// By index: `map` of an array of any lanes asks for their size in memory, which is not known here.
+// By index: `map` of an array of any lanes asks for their size in memory, which is not known here, and after a `zip` with
+// `iter_mut` a proof knows no element.
 fn costs_of<L: Lane>(lanes: &Row<L>) -> Row<u64>
     ensures { (t : ℕ) → t < LANES → slice_index result t ≡ slice_index (values L.Lane.value lanes.now) t }
 {
@@ -95,7 +96,8 @@ pub(crate) struct Wanted<'a, T: Trellis> {
 }
 
 impl<T: Trellis> Wanted<'_, T> {
-    // One stage: the next row, and its word of survivors.
+    // One stage: the next row, and its word of survivors. `below` is a clause here and below, and no fact of `Wanted`, which is
+    // of either width: only `any_last_row` chooses the lane.
     fn advance<L: Lane>(&self, work: &mut [u64], k: usize, row: &Row<L>, next: &mut Row<L>)
         requires below { Below (T.model self.now.trellis.now) L.Lane.top }
         requires early { k < (T.model self.now.trellis.now).stages }

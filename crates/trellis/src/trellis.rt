@@ -24,7 +24,8 @@ pub struct Entry {
     pub cost: u16,
 }
 
-// A trellis of up to 7,680 stages and up to 4,096 states, or 64 if its path is wanted.
+// A trellis of up to 7,680 stages and up to 4,096 states, or 64 if its path is wanted. A state is a number with a clause: how
+// many there are is known at run time alone, and a type for one would be made and taken apart at each branch.
 pub trait Trellis {
     // what is searched: all that the replies say
     ghost model: { Self → Model };
