@@ -2,13 +2,12 @@ ghost use Rattle.std.specs.Prelude.{◌≡◌, ℕ, ◌+◌, ◌*◌, ◌<◌, �
 ghost use Rattle.coder.specs.Sending.{burst_length, coded_bits, filled, message, profiled, protected, sent as sending};
 ghost use Rattle.standard.specs.Refusals.{asked, burst_rows, capacity as capable, first, refused};
 
-use crate::chain::{
-    BLOCK_BYTES, BURST_BITS, MESSAGE_BYTES, block_bytes, interleaver, periods, register,
-};
-use standard::order::{Order, Request};
+use crate::chain::{BURST_BITS, MESSAGE_BYTES, block_bytes, interleaver, periods, register};
+use standard::order::{BLOCK_BYTES, Order, Request};
 use standard::refusal::Refusal;
 
-// An accepted order, with data that it has room for.
+// An accepted order, with data that it has room for. Its steps work in fixed arrays of the longest burst: the calls have
+// no heap.
 #[derive(Clone, Copy)]
 pub(crate) struct Burst<'a> {
     pub(crate) order: Order,

@@ -12,9 +12,6 @@ use standard::order::Order;
 // The most bytes that a burst has before the outer step.
 pub const MESSAGE_BYTES: usize = 864;
 
-// The most bytes that a burst has after the outer step.
-pub const BLOCK_BYTES: usize = 960;
-
 // The most coded bits that a burst has.
 pub const BURST_BITS: usize = 9216;
 

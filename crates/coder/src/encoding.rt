@@ -32,7 +32,7 @@ pub fn encode(request: Request, payload: &[u8], points: &mut [Point]) -> Result<
     ensures points { OnOk result (Sent request payload.now points.new) }
 {
     let burst = Burst::accept(request, payload)?;
-    if points.len() != 192 * burst.order.symbols() {
+    if points.len() != burst.order.points() {
         return Err(Refusal::PointCount);
     }
     let mut sent = [false; BURST_BITS];

@@ -6,8 +6,6 @@ mod chain;
 mod encoding;
 mod laws;
 
-pub use chain::{
-    BLOCK_BYTES, BURST_BITS, MESSAGE_BYTES, block_bytes, interleaver, periods, register,
-};
+pub use chain::{BURST_BITS, MESSAGE_BYTES, block_bytes, interleaver, periods, register};
 pub use encoding::{burst_bits, encode};
 pub use laws::{bursts_are_lawful, worked_cases};

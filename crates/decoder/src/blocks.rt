@@ -6,9 +6,9 @@ ghost use Rattle.standard.specs.Refusals.{asked, capacity as capable};
 ghost use Rattle.standard.specs.declared.refusal.Refusal.TheVariants.{Block};
 ghost use Rattle.words.specs.Words.{word};
 
-use coder::{BLOCK_BYTES, MESSAGE_BYTES, register};
+use coder::{MESSAGE_BYTES, register};
 use corrector::correct_at;
-use standard::order::Order;
+use standard::order::{BLOCK_BYTES, Order};
 use standard::refusal::Refusal;
 
 // The blocks of an order, one after another.
@@ -57,6 +57,7 @@ impl Blocks {
     {
         let shape = self.order.profile().shape();
         let mut all = [0; MESSAGE_BYTES];
+        // by places: after `chunks_exact_mut` a proof knows no element
         for b in 0..self.order.symbols() {
             let at = shape.size * b;
             let from = shape.block() * b + shape.parity();

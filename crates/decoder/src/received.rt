@@ -8,14 +8,15 @@ ghost use Rattle.words.specs.Words.{bytes as bytewise, flags, value, word};
 
 use crate::blocks::Blocks;
 use crate::report::Report;
-use coder::{BLOCK_BYTES, BURST_BITS, block_bytes, interleaver, periods};
-use standard::order::{Order, Request};
+use coder::{BURST_BITS, block_bytes, interleaver, periods};
+use standard::order::{BLOCK_BYTES, Order, Request};
 use standard::point::Point;
 use standard::refusal::Refusal;
 use trellis::PATH_BITS;
-use words::nibble;
+use words::number;
 
-// An accepted order, with all the points that it has.
+// An accepted order, with all the points that it has. Its steps work in fixed arrays of the longest burst: the calls have
+// no heap.
 #[derive(Clone, Copy)]
 pub(crate) struct Received<'a> {
     pub(crate) order: Order,
@@ -29,7 +30,7 @@ fn pack(bits: &[bool], bytes: &mut [u8])
     ensures { (i : ℕ) → i < length bytes.old → slice_index bytes.new i ≡ bytewise (flags bits.now) i }
 {
     for (i, byte) in bytes.iter_mut().enumerate() {
-        *byte = nibble(bits, 8 * i) * 16 + nibble(bits, 8 * i + 4);
+        *byte = number(&bits[8 * i..8 * i + 8]) as u8;
     }
 }
 
@@ -41,7 +42,7 @@ impl<'a> Received<'a> {
         ensures points { IfOk result (λ r. r.points.now ≡ points.now) }
     {
         let order = Order::try_from(request)?;
-        if points.len() != 192 * order.symbols() {
+        if points.len() != order.points() {
             return Err(Refusal::PointCount);
         }
         Ok(Received { order, points })

@@ -6,7 +6,7 @@ use crate::record::Mark;
 use std::alloc::AllocError;
 use std::fmt;
 use std::fmt::Write;
-use words::nibble;
+use words::number;
 
 impl fmt::Display for Mark {
     ghost output = { λ m. Some (named m) };
@@ -39,7 +39,7 @@ pub(crate) fn push_hex(text: &mut String, bits: &[bool]) -> Result<(), AllocErro
     ensures { OnOk result (string_bytes text.new ≡ string_bytes text.old ++ hex (length bits.now / 4) (flags bits.now)) }
 {
     for four in bits.chunks_exact(4) {
-        write!(text, "{:X}", nibble(four, 0))?;
+        write!(text, "{:X}", number(four))?;
     }
     Ok(())
 }

@@ -8,10 +8,10 @@ loop-four-preserved c =
     let steps = c.in-Some.ensures.steps in
     let there = c.loop-four.invariant.0 ∙ steps.1.0 in
     let long = steps.1.1 ∙ c.loop-four.invariant.1 in
-    let added : string_bytes c.write.new.self ≡ string_bytes c.loop-four.text ++ digits 16 true c.nibble.result = search rules in
+    let added : string_bytes c.write.new.self ≡ string_bytes c.loop-four.text ++ digits 16 true c.number.result = search rules in
     rw (length-append c.loop-four.yielded (c.in-Some.four ∷ [])) (
       bits_left c.args.bits.now c.in-Some.four.now c.next.new.self.rest.now (length c.loop-four.yielded) there long,
       steps.0 ∙ c.loop-four.invariant.1,
       hex_more c.args.bits.now c.in-Some.four.now c.next.new.self.rest.now (length c.loop-four.yielded) there long (string_bytes c.args.text.now) (string_bytes c.loop-four.text)
-          (string_bytes c.write.new.self) c.nibble.result c.loop-four.invariant.2 added c.nibble.ensures.value c.nibble.ensures.below,
+          (string_bytes c.write.new.self) c.number.result c.loop-four.invariant.2 added c.number.ensures.value c.number.ensures.below,
     )
