@@ -42,6 +42,7 @@ fn show_data(rt: &HostRuntime, report: Report, bytes: &[u8]) -> anyhow::Result<(
     Ok(())
 }
 
+// As this program's output has it, which is none of standard's matter: so no `impl Display` for a refusal.
 fn show_refusal(rt: &HostRuntime, refusal: Refusal) -> anyhow::Result<()> {
     let number = refusal.number();
     match refusal {
@@ -77,6 +78,7 @@ fn run(rt: &HostRuntime) -> anyhow::Result<()> {
     let mut input = Vec::new(rt.alloc());
     rt.stdin().take(INPUT_BYTES).read_to_end(&mut input)?;
     let mut rest = input.as_slice();
+    // no iterator over the bursts: the length of one is known once its head is read
     while let Some((head, tail)) = rest.split_first_chunk::<5>() {
         let request = Request::from(*head);
         let Some((points, after)) = tail.split_at_checked(request.symbols as usize * SYMBOL_BYTES)

@@ -1,21 +1,24 @@
 ghost use Rattle.std.specs.Prelude.{◌+◌, ◌*◌, ◌<◌};
 
+use draws::Draws;
 use standard::shape::Shape;
 
-// A row of pseudo-random numbers.
+// What is drawn for messages and damage.
 #[derive(Drop)]
 pub(crate) struct Random {
-    state: u32,
+    draws: Draws,
 }
 
 impl Random {
-    pub(crate) fn new(state: u32) -> Random {
-        Random { state }
+    pub(crate) fn new(seed: u32) -> Random {
+        Random {
+            draws: Draws::new(seed),
+        }
     }
 
+    // The low bits of what is drawn repeat soon.
     fn next(&mut self) -> usize {
-        self.state = self.state.wrapping_mul(1664525).wrapping_add(1013904223);
-        (self.state >> 8) as usize
+        (self.draws.next() >> 8) as usize
     }
 
     fn byte(&mut self) -> u8 {

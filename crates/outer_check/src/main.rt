@@ -133,6 +133,7 @@ fn report(rt: HostRuntime, tried: Tried) -> io::Result<()> {
 }
 
 fn main(rt: HostRuntime) -> io::Result<()> {
+    // the shapes of the seven rates, told here since a check takes no value from what it checks
     for (size, limit) in [
         (12, 0),
         (24, 4),

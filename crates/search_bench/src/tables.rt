@@ -4,6 +4,7 @@ ghost use Rattle.search_bench.specs.Heard.{cost};
 ghost use Rattle.search_bench.specs.Tables.{total, weight};
 
 use crate::counted::Step;
+use draws::Draws;
 use std::array;
 
 // The taps of both coded bits among the five middle bits.
@@ -11,7 +12,8 @@ const X_TAPS: usize = 0b11100;
 
 const Y_TAPS: usize = 0b01101;
 
-// A coded bit as it was heard, and what the other costs.
+// A coded bit as it was heard, and what the other costs. The tables have a row for every pair of them, whose number tells
+// the pair; only here is it taken apart.
 #[derive(Clone, Copy)]
 struct HeardBit {
     bit: bool,
@@ -117,11 +119,8 @@ pub fn steps() -> [[Step; 2]; 2560]
     array::from_fn(steps_from)
 }
 
-// Kinds that differ from stage to stage.
-pub fn kinds() -> [u8; 7680] {
-    let mut x = 1u32;
-    array::from_fn(|_| {
-        x = x.wrapping_mul(1664525).wrapping_add(1013904223);
-        (x >> 24) as u8
-    })
+// Kinds that differ from stage to stage, any row of the tables.
+pub(crate) fn kinds() -> [u8; 7680] {
+    let mut draws = Draws::new(1);
+    array::from_fn(|_| (draws.next() >> 24) as u8)
 }

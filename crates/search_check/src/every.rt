@@ -52,7 +52,7 @@ impl Walk {
     }
 
     // Writes the bits of as many stages as there is room for.
-    pub fn write(&self, path: &mut [bool]) {
+    pub(crate) fn write(&self, path: &mut [bool]) {
         for (k, place) in path.iter_mut().take(STAGES).enumerate() {
             *place = bit(self.bits, k);
         }
@@ -81,7 +81,7 @@ impl Best {
     }
 
     // Every path of the trellis, one after the other.
-    pub fn of_all<T: Trellis>(trellis: &T) -> Option<Best> {
+    pub(crate) fn of_all<T: Trellis>(trellis: &T) -> Option<Best> {
         let mut best: Option<Best> = None;
         // bits past the last stage would make no path of their own
         for bits in 0..1u32 << trellis.stages().min(STAGES) as u32 {

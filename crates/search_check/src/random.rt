@@ -2,35 +2,48 @@ ghost use Rattle.std.specs.Prelude.{◌<◌, ◌≤◌};
 ghost use Rattle.search_check.specs.Small.{Cheap, CheapCell, CheapStage};
 
 use crate::small::Small;
+use draws::Draws;
 use trellis::Branch;
 
-// Numbers as good as random, always the same.
+// How many states a trellis has, one at least.
 #[derive(Clone, Copy)]
-pub struct Random {
-    x: u32,
+struct States {
+    count: usize,
+    ghost some: { 0 < count },
+}
+
+impl States {
+    // The state that a number picks.
+    fn pick(self, number: u32) -> usize
+        ensures { result < self.count }
+    {
+        number as usize % self.count
+    }
+}
+
+// What is drawn for the trellises.
+#[derive(Clone, Copy)]
+pub(crate) struct Random {
+    draws: Draws,
 }
 
 impl Random {
-    pub fn new(seed: u32) -> Random {
-        Random { x: seed }
-    }
-
-    fn next(&mut self) -> u32 {
-        self.x = self.x.wrapping_mul(1664525).wrapping_add(1013904223);
-        self.x
+    pub(crate) fn new(seed: u32) -> Random {
+        Random {
+            draws: Draws::new(seed),
+        }
     }
 
     // One branch: mostly open, mostly of little cost, so that ties are common.
-    fn branch(&mut self, states: usize) -> Option<Branch>
-        requires { 0 < states }
+    fn branch(&mut self, states: States) -> Option<Branch>
         ensures { CheapCell result }
     {
-        let x = self.next();
+        let x = self.draws.next();
         if x >> 28 < 3 {
             return None;
         }
         Some(Branch {
-            to: (x >> 8) as usize % states,
+            to: states.pick(x >> 8),
             cost: if x >> 20 & 3 == 0 {
                 x >> 16 & 15
             } else {
@@ -40,8 +53,7 @@ impl Random {
     }
 
     // The branches of a stage; with `twins` both bits of a state lead to the same one.
-    fn stage(&mut self, states: usize, twins: bool) -> [Option<Branch>; 16]
-        requires { 0 < states }
+    fn stage(&mut self, states: States, twins: bool) -> [Option<Branch>; 16]
         ensures { CheapStage result }
     {
         let mut stage = [None; 16];
@@ -56,8 +68,7 @@ impl Random {
         stage
     }
 
-    fn branches(&mut self, states: usize, twins: bool) -> [[Option<Branch>; 16]; 8]
-        requires { 0 < states }
+    fn branches(&mut self, states: States, twins: bool) -> [[Option<Branch>; 16]; 8]
         ensures { Cheap result }
     {
         let mut branches = [[None; 16]; 8];
@@ -68,15 +79,17 @@ impl Random {
     }
 
     // The trellis of this number.
-    pub fn small(&mut self, number: u32) -> Small {
-        let states = 1 + (number / 9 % 8) as usize;
+    pub(crate) fn small(&mut self, number: u32) -> Small {
+        let states = States {
+            count: 1 + (number / 9 % 8) as usize,
+        };
         let branches = self.branches(states, number % 5 == 0);
-        let x = self.x;
+        let x = self.draws.last();
         Small {
             stages: (number % 9) as usize,
-            states,
-            start: (x >> 4) as usize % states,
-            ends: (x >> 12) as usize % (states + 1),
+            states: states.count,
+            start: states.pick(x >> 4),
+            ends: (x >> 12) as usize % (states.count + 1),
             branches,
             wanted: number % 4 > 0,
             narrow: number / 4 % 2 == 0,

@@ -1,7 +1,7 @@
 use crate::example::{SYMBOL_BITS, SYMBOL_BYTES};
 use standard::point::Point;
 use std::io;
-use words::digit;
+use words::number;
 
 // Counts to a unit.
 const UNIT: i16 = 256;
@@ -17,18 +17,11 @@ pub fn show_bytes(rt: &impl Print, step: &str, bytes: &[u8]) -> io::Result<()> {
     println!(rt; "")
 }
 
-// Eight bits as a byte, the first highest.
-fn packed(eight: &[bool]) -> u8 {
-    eight
-        .iter()
-        .fold(0u8, |byte, bit| (byte << 1) | digit(*bit))
-}
-
 // Prints a step's name, and below it its bits as bytes.
 pub fn show_bits(rt: &impl Print, step: &str, bits: &[bool; SYMBOL_BITS]) -> io::Result<()> {
     let mut bytes = [0u8; SYMBOL_BYTES];
     for (byte, eight) in bytes.iter_mut().zip(bits.chunks(8)) {
-        *byte = packed(eight);
+        *byte = number(eight) as u8;
     }
     show_bytes(rt, step, &bytes)
 }
