@@ -74,8 +74,8 @@ fn map_by(modulation: Modulation, sent: &[bool], points: &mut [Point])
     }
 }
 
-// The points of the bits. Each modulation has a loop of its own, in which its widths and levels are constants: that takes 4.4 us less
-// of a burst of 1,536 points at QPSK, and 3.5 us less at 64-QAM.
+// The points of the bits. Each modulation has a loop of its own, in which its widths and levels are constants: without
+// that here and in the interleaver a whole burst took 5.1 ns a coded bit at rate 2, past the bar of 5; it takes 3.3.
 pub fn map(modulation: Modulation, sent: &[bool], points: &mut [Point])
     requires few { length points.old ≤ 1536 }
     requires long { carrier_bits modulation * length points.old ≤ length sent.now }
@@ -156,7 +156,8 @@ fn hear_by(modulation: Modulation, points: &[Point], bits: &mut [bool])
     }
 }
 
-// The bits that the points are decided to. Each modulation has a loop of its own, as in `map`.
+// The bits that the points are decided to. Each modulation has a loop of its own, as in `map`: without that
+// here and in the interleaver decoding took up to 8 ns a stage more.
 pub fn hear(modulation: Modulation, points: &[Point], bits: &mut [bool])
     requires few { length points.now ≤ 1536 }
     requires bits_long { carrier_bits modulation * length points.now ≤ length bits.old }

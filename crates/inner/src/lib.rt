@@ -22,6 +22,7 @@ fn window_outputs(window: u16) -> (u8, u8)
 }
 
 // X and Y at every place of a burst, as bytes again; not in pairs, since an entry of the puncturing takes one row whole.
+// The rows are fixed arrays, since the calls have no heap.
 #[derive(Drop)]
 struct Outputs {
     xs: [u8; BLOCK_BYTES],
@@ -45,6 +46,7 @@ impl Outputs {
         let mut xs = [0; BLOCK_BYTES];
         let mut ys = [0; BLOCK_BYTES];
         let mut window: u16 = 0;
+        // by index: after a `zip` with `iter_mut` a proof knows no element
         for (i, byte) in bytes.iter().enumerate() {
             window = (window % 64) * 256 + *byte as u16;
             (xs[i], ys[i]) = window_outputs(window);

@@ -6,7 +6,6 @@ use Rattle.std.proofs.lemmas.Bool.{cases_lt}
 use Rattle.words.specs.Words.{Bits, Bytes, ◌⊻◌, plus, digit, ones, bits, bytes, value}
 use Rattle.words.proofs.Bridge.{digit_eqb, value_same}
 use Rattle.inner_code.specs.Inner.{earlier, x, y, coded, Rated}
-use Rattle.inner_code.proofs.Coding.{ones_same}
 use Rattle.paths.specs.Ties.{BitsFirst, same_bits, lower_bit}
 use Rattle.inner_words.specs.InnerWords.{Tailed, wrong, Nearest}
 use Rattle.inner_words.specs.Receiving.{sent}
@@ -120,10 +119,6 @@ nearest_clean p q heard u w r t h near =
     let l = near.least u t in
     let e : wrong p q w heard ≡ 0 = omega arith in
     coded_injective p q w u r (λ j m. none_sum (coded p w j) (heard j) (none_ones ((p + 1) * q) (plus (coded p w) heard) e j m) ∙ h j m)
-
--- only what the first periods heard matters
-pub wrong_same : (p q : ℕ) (u heard other : Bits) → ((j : ℕ) → j < (p + 1) * q → heard j ≡ other j) → wrong p q u heard ≡ wrong p q u other
-wrong_same p q u heard other h = ones_same ((p + 1) * q) (plus (coded p u) heard) (plus (coded p u) other) (λ j l. ap (λ (z : Bool). coded p u j ⊻ z) (h j l))
 
 -- ---- the tail is the last byte
 pub tailed_bits : (w : Bytes) (m : ℕ) → w m ≡ 0 → Tailed (8 * (m + 1)) (bits w)

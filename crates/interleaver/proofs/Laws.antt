@@ -1,6 +1,6 @@
 -- The laws of the interleaver as its public functions promise them, and the steps of its loops.
 -- Assumes nothing.
-use mathlib.Core.Path.{◌≡◌, refl, sym, ◌∙◌, ap, subst}
+use mathlib.Core.Path.{◌≡◌, sym, ◌∙◌, ap, subst}
 use Prim.Native.Nat.{ℕ, ◌+◌, ◌-◌, ◌*◌, ◌/◌, ◌%◌, ◌<◌}
 use native.Mathlib.Nat.{div-add-mod, mod-lt, div-lt_iff_lt-mul, mul_comm}
 use Rattle.words.specs.Words.{Bits}
@@ -38,12 +38,7 @@ permutation =
         (let hk = source_below g c (parts c m) hg j hj in p.goes i (source g c j) hi hk ∙ sym (q.goes i (source g c j) hi hk))
 
 -- ---- the place as it is computed
-pub record Placed (g c k r : ℕ) : Type 0 where
-  pub value : r ≡ place g c k
-  pub below : r < size g c
-
-pub placed_by : (s w g c k : ℕ) → s ≡ turn c → w ≡ g * c → 0 < g → Modulation c → k < size g c → Placed g c k ((w * (k % 12) + k / 12) / s * s + (w * (k % 12) + k / 12 + 12 * w - k % 12) % s)
+pub placed_by : (s w g c k : ℕ) → s ≡ turn c → w ≡ g * c → 0 < g → Modulation c → k < size g c → (w * (k % 12) + k / 12) / s * s + (w * (k % 12) + k / 12 + 12 * w - k % 12) % s ≡ place g c k
 placed_by s w g c k es ew hg m h =
-    subst (λ (x : ℕ). Placed g c k ((x * (k % 12) + k / 12) / s * s + (x * (k % 12) + k / 12 + 12 * x - k % 12) % s)) (sym ew)
-    (subst (λ (n : ℕ). Placed g c k ((g * c * (k % 12) + k / 12) / s * s + (g * c * (k % 12) + k / 12 + n - k % 12) % s)) (size_rows g c)
-    (subst (Placed g c k) (place_at g c (parts c m) hg s k (sym es) h) (record { value = refl; below = place_below g c (parts c m) hg k h })))
+    subst (λ (x : ℕ). (x * (k % 12) + k / 12) / s * s + (x * (k % 12) + k / 12 + 12 * x - k % 12) % s ≡ place g c k) (sym ew)
+    (subst (λ (n : ℕ). (g * c * (k % 12) + k / 12) / s * s + (g * c * (k % 12) + k / 12 + n - k % 12) % s ≡ place g c k) (size_rows g c) (sym (place_at g c (parts c m) hg s k (sym es) h)))

@@ -106,8 +106,8 @@ impl Interleaver {
         }
     }
 
-    // Permutes `count` symbols. Each modulation has a loop of its own, in which its strides are constants: one loop for
-    // all took a whole burst 5.1 ns a coded bit at rate 2, past the bar of 5; with these it takes 3.2.
+    // Permutes `count` symbols. Each modulation has a loop of its own, in which its strides are constants: without that
+    // here and in the constellation a whole burst took 5.1 ns a coded bit at rate 2, past the bar of 5; it takes 3.3.
     fn permute(self, way: Way, count: usize, word: &[bool], out: &mut [bool])
         requires word_long { symbol self * count ≤ length word.now }
         requires out_long { symbol self * count ≤ length out.old }
@@ -129,7 +129,7 @@ impl Interleaver {
         }
     }
 
-    // Interleaves `count` symbols.
+    // Interleaves `count` symbols: both slices may be longer, as the arrays of the longest burst are.
     pub fn interleave(self, count: usize, coded: &[bool], sent: &mut [bool])
         requires coded_long { symbol self * count ≤ length coded.now }
         requires sent_long { symbol self * count ≤ length sent.old }

@@ -70,7 +70,7 @@ fn encode_block(shape: Shape, message: &[u8], coded: &mut [u8])
     coded[sent..].copy_from_slice(message);
 }
 
-// Writes the blocks of `count` messages of one shape.
+// Writes the blocks of `count` messages of one shape. Both slices may be longer, as the arrays of the longest burst are.
 pub fn encode(shape: Shape, count: usize, message: &[u8], coded: &mut [u8])
     requires some { 0 < shape.size }
     requires there { count * shape.size ≤ length message.now }

@@ -152,15 +152,6 @@ reduced_one limit rows left s j p long w m =
         subst (λ (k : ℕ). applied limit rows r s k ≡ 0) (sym e) (w.before r (omega arith) (sym (get_or-set_other left p r false false q) ∙ n) (λ z. q (cc)))
     step r h (no q) n i l (no ne) = w.kernel r h (sym (get_or-set_other left p r false false q) ∙ n) i (omega arith)
 
--- every row vanishes already
-pub reduced_none : (limit : ℕ) (rows : List (List ℕ)) (left : List Bool) (s : List ℕ) (j : ℕ) → Swept limit rows left s j (limit + 1) None → suc limit ≤ left_in (suc limit) left + j → Reduced limit rows left s (j + 1)
-reduced_none limit rows left s j w m =
-    record { shape = w.shape; kernel = λ r h n i l. step r h n i l (ℕ_discrete i j); many = omega arith }
-  where
-    step : (r : ℕ) → r ≤ limit → flags left r ≡ true → (i : ℕ) → i < j + 1 → Dec (i ≡ j) → applied limit rows r s i ≡ 0
-    step r h n i l (yes e) = subst (λ (k : ℕ). applied limit rows r s k ≡ 0) (sym e) (w.before r (omega arith) n (λ z. cc))
-    step r h n i l (no ne) = w.kernel r h n i (omega arith)
-
 pub reduced_start : (limit : ℕ) (rows : List (List ℕ)) (left : List Bool) (s : List ℕ) → limit ≤ 8 → Triangular limit rows → ((k : ℕ) → k < 9 → flags left k ≡ true) → Reduced limit rows left s 0
 reduced_start limit rows left s hl sh all_left =
     record { shape = sh; kernel = λ r h n i l. absurd (omega arith); many = omega (arith, count_all (suc limit) (λ r. digit (flags left r)) (λ k l. ap digit (all_left k (omega arith)))) }

@@ -93,9 +93,6 @@ first_path m law on work row bits t r ch agree =
     }
 
 -- ---- no open branch leads past the top
-pub narrow_below : (m : Model) → Lawful m → m.narrow ≡ true → Below m 65535
-narrow_below m law narrow = record { at = λ p k t c le h. law.cheap narrow p k t c le h }
-
 pub always_below : (m : Model) → Lawful m → Below m 536870912
 always_below m law = record { at = λ p k t c le h. let a = after_cost m law p k t c le h in let b = law.few_stages in omega arith }
 
@@ -107,12 +104,6 @@ room_there m law on top low work k row early r = record {
       let p = (r.best s (omega arith)).met l in
       let q = after_on m (trace m work k s) k s (get_or row s 0) t c b p so.1 in
       low.at _ (suc k) t (get_or row s 0 + c) (omega arith) q;
-}
-
-pub reached_same : (m : Model) (work : List ℕ) (k : ℕ) (row other : List ℕ) → ((t : ℕ) → t < 64 → get_or other t 0 ≡ get_or row t 0) → Reached m work k row → Reached m work k other
-reached_same m work k row other h r = record {
-  best = λ t l. subst (λ n. Best m k t n (trace m work k t)) (sym (h t l)) (r.best t l);
-  trail = λ t l lt. r.trail t l (let f = h t l in omega arith);
 }
 
 -- ---- the answer

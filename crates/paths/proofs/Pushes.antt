@@ -1,7 +1,8 @@
 -- Branches followed one by one, where no path is wanted.
 -- Assumes nothing.
-use Rattle.std.proofs.Common.{◌≡◌, ℕ, zero, suc, ◌+◌, ◌*◌, ◌<◌, ◌≤◌, min, Bool, true, false, ◌≢◌, List, [], ◌∷◌, length, get_or, set, Some, Option, sym, refl, ap, ◌∙◌, subst, ⊎_elim, eq-or-lt_of_le, add-one, arith, get_or-set_other, get_or-set_same}
+use Rattle.std.proofs.Common.{◌≡◌, ℕ, ◌+◌, ◌*◌, ◌<◌, ◌≤◌, min, Bool, true, false, ◌≢◌, List, length, get_or, set, Some, Option, sym, refl, ap, ◌∙◌, subst, ⊎_elim, eq-or-lt_of_le, add-one, arith, get_or-set_other, get_or-set_same}
 use Rattle.std.proofs.lemmas.Bool.{cases_order, cases_lt}
+use Rattle.std.proofs.lemmas.List.{set-get_or}
 use Rattle.paths.specs.Model.{Model, Lawful}
 use Rattle.paths.proofs.Pushed.{turn, Source, Partly, Leasts}
 use Rattle.paths.proofs.Paths.{upd, some_inj, Came, came, after_on, after_within}
@@ -63,11 +64,6 @@ pushed m law k row next s b to pay early few lt opens less p =
       capped = λ t h. let o = p.capped t h in let a = all t in omega arith;
     }
 
-set_own : (next : List ℕ) (t : ℕ) → set next t (get_or next t 0) ≡ next
-set_own [] t = refl
-set_own (x ∷ next) zero = refl
-set_own (x ∷ next) (suc t) = ap (λ z. x ∷ z) (set_own next t)
-
 -- the less of the two is kept
 pub lowered : (m : Model) → Lawful m → (k : ℕ) (row next : List ℕ) (s : ℕ) (b : Bool) (to pay : ℕ) (x : ℕ) → x ≡ min (get_or next to 0) (get_or row s 0 + pay) → k < m.stages → s < m.states → to < length next → Some (to, pay) ≡ m.branch k s b → Partly m k row next (turn s b) → Partly m k row (set next to x) (turn s b + 1)
 lowered m law k row next s b to pay x is early few lt opens p =
@@ -75,29 +71,8 @@ lowered m law k row next s b to pay x is early few lt opens p =
     (λ l. subst (λ n. Partly m k row (set next to n) (turn s b + 1)) (omega arith) (pushed m law k row next s b to pay early few lt (sym opens) l p))
     (λ l.
     let e : get_or next to 0 ≡ x = omega arith in
-    subst (λ z. Partly m k row z (turn s b + 1)) (sym (set_own next to) ∙ ap (λ n. set next to n) e) (kept m k row next s b (one_branch next (get_or row s 0) to pay (m.branch k s b) (sym opens) l) p))
+    subst (λ z. Partly m k row z (turn s b + 1)) (sym (set-get_or next to 0) ∙ ap (λ n. set next to n) e) (kept m k row next s b (one_branch next (get_or row s 0) to pay (m.branch k s b) (sym opens) l) p))
     (cases_lt (get_or row s 0 + pay) (get_or next to 0))
-
--- nothing leads on from a state that is not reached
-pub skipped : (m : Model) → Lawful m → (k : ℕ) (row next : List ℕ) (s : ℕ) → k < m.stages → s < m.states → 536870912 ≤ get_or row s 0 → Partly m k row next (2 * s) → Partly m k row next (2 * (s + 1))
-skipped m law k row next s early few far p = record {
-  lower = λ s' b' t c h e.
-      ⊎_elim
-      (λ l. p.lower s' b' t c l e)
-      (λ l.
-      let q = turn_low s' b' in
-      let w = law.bounded k s' b' t c early (omega arith) e in
-      let cap = p.capped t w.0 in
-      let same : get_or row s' 0 ≡ get_or row s 0 = ap (λ n. get_or row n 0) (omega arith) in
-      omega arith)
-      (cases_lt (turn s' b') (2 * s));
-  met = p.met;
-  capped = p.capped;
-}
-  where
-    turn_low : (s : ℕ) (b : Bool) → (2 * s ≤ turn s b) × (turn s b ≤ 2 * s + 1)
-    turn_low s true = (omega arith, omega arith)
-    turn_low s false = (omega arith, omega arith)
 
 pub least_more : (m : Model) → Lawful m → (k : ℕ) (row next : List ℕ) → k < m.stages → Leasts m k row → Partly m k row next (2 * m.states) → Leasts m (k + 1) next
 least_more m law k row next early rows p = record {

@@ -1,7 +1,8 @@
 -- The tie rule decides between any two paths, and a search has one answer.
 -- Assumes nothing.
-use Rattle.std.proofs.Common.{◌≡◌, ℕ, zero, suc, ◌<◌, ◌≤◌, Bool, true, false, cond, ◌⊎◌, List, [], ◌∷◌, length, get_or, Some, None, Option, sym, refl, ap, ◌∙◌, subst, inl, inr, ⊎_elim, arith}
+use Rattle.std.proofs.Common.{◌≡◌, ℕ, zero, suc, ◌<◌, ◌≤◌, Bool, true, false, cond, ◌⊎◌, List, length, get_or, Some, None, Option, sym, refl, ap, ◌∙◌, subst, inl, inr, ⊎_elim, arith}
 use Rattle.std.proofs.lemmas.Bool.{cases_lt, cases_order}
+use Rattle.std.proofs.lemmas.List.{same_lists, get_or_default}
 use Rattle.paths.specs.Model.{Model, Path, after}
 use Rattle.paths.specs.Ties.{state, First, BitsFirst, same_bits, lower_bit, same_states, lower_state}
 use Rattle.paths.specs.Answers.{Arrives, LeastCost, FirstPath, path_of, Kept, By, Found}
@@ -96,19 +97,16 @@ first_total m p q n = ⊎_elim (first_of m p q n) (λ t. swap (first_of m q p n 
     swap (inr b) = inl b
 
 -- ---- a search has one answer
-pub lists_same : (xs ys : List Bool) → length xs ≡ length ys → ((j : ℕ) → get_or xs j false ≡ get_or ys j false) → xs ≡ ys
-lists_same [] [] l f = refl
-lists_same [] (y ∷ ys) l f = absurd (omega arith)
-lists_same (x ∷ xs) [] l f = absurd (omega arith)
-lists_same (x ∷ xs) (y ∷ ys) l f = let e = lists_same xs ys (omega arith) (λ j. f (suc j)) in let h = f 0 in λ i. h i ∷ e i
-
 same_path : (m : Model) (old x y : List Bool) (c : ℕ) → length x ≡ length y → FirstPath m c (path_of x) × Kept m.stages old x → FirstPath m c (path_of y) × Kept m.stages old y → x ≡ y
 same_path m old x y c l (a, k) (b, k') =
-    lists_same x y l (λ j.
-    ⊎_elim
-    (λ h. first_both m (path_of x) (path_of y) m.stages (a.first (path_of y) b.arrives) (b.first (path_of x) a.arrives) j h)
-    (λ h. k j h ∙ sym (k' j h))
-    (cases_lt j m.stages))
+    same_lists x y l (λ j d low. get_or_default x j d false low ∙ at j ∙ get_or_default y j false d (omega arith))
+  where
+    at : (j : ℕ) → get_or x j false ≡ get_or y j false
+    at j =
+        ⊎_elim
+        (λ h. first_both m (path_of x) (path_of y) m.stages (a.first (path_of y) b.arrives) (b.first (path_of x) a.arrives) j h)
+        (λ h. k j h ∙ sym (k' j h))
+        (cases_lt j m.stages)
 
 module _ (m : Model) (old x y : List Bool) (l : length x ≡ length y) where
   both : (w : Bool) (a b : ℕ) → By w (FirstPath m a (path_of x) × Kept m.stages old x) (LeastCost m a × (x ≡ old)) → By w (FirstPath m b (path_of y) × Kept m.stages old y) (LeastCost m b × (y ≡ old)) → (a ≡ b) × (x ≡ y)

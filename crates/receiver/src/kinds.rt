@@ -69,7 +69,7 @@ fn fill_period(rate: InnerRate, heard: &[bool], stages: &mut [Heard])
 {
     let sent = rate.puncturing();
     stages[0] = Heard::NONE.with(sent[0], heard[0]).with(sent[1], heard[1]);
-    // by an index, which goes into three slices
+    // by an index, which goes into three slices: after a `zip` with `iter_mut` a proof knows no element
     for i in 1..stages.len() {
         stages[i] = Heard::NONE.with(sent[i + 1], heard[i + 1]);
     }

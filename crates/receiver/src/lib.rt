@@ -38,6 +38,7 @@ pub fn nearest(
     ensures count { IfOk result (λ x. x ≡ wrongs (periodic rate) periods (path_of path.new) (flags heard.now)) }
     ensures past { Kept (periodic rate * periods) path.old path.new }
 {
+    // a fixed array: the calls have no heap
     let mut stages = [Heard::NONE; PATH_BITS];
     fill_kinds(rate, periods, heard, &mut stages);
     let costs = costs::costs();

@@ -1,5 +1,5 @@
-use Rattle.inner_words.proofs.Words.{tailed_bits, tailed_byte}
+use Rattle.inner_words.proofs.Words.{tailed_byte}
 use Rattle.inner_words.proofs.tail_is_the_last_byte.Goals as goal
 
-pub returns : goal.returns
-returns c = record { of_bytes = tailed_bits; of_bits = tailed_byte }
+pub returns-clause-of_bits : goal.returns-clause-of_bits
+returns-clause-of_bits c = tailed_byte

@@ -1,5 +1,5 @@
-use Rattle.paths.proofs.Ties.{first_total, first_both}
+use Rattle.paths.proofs.Ties.{first_total}
 use Rattle.paths.proofs.ties_are_decided.Goals as goal
 
-pub returns : goal.returns
-returns c = record { total = first_total; same = first_both }
+pub returns-clause-total : goal.returns-clause-total
+returns-clause-total c = first_total

@@ -1,4 +1,4 @@
-use Rattle.std.proofs.Common.{Some, None, arith, rules}
+use Rattle.std.proofs.Common.{Some, None, arith}
 use Rattle.paths.proofs.CostEnds.{start_leasts, costed}
 use Rattle.trellis.proofs.costs.search_cost.Goals as goal
 
@@ -11,12 +11,8 @@ first_costs-requires g c =
     let start = c.start.ensures in
     (omega arith, omega arith)
 
-pub forward-requires : goal.forward-requires
-forward-requires g c = record {
-  front_long = search rules;
-  back_long = search rules;
-  least = start_leasts _ (g.T.Trellis.lawful c.args.trellis.now) _ c.start.result c.start.ensures c.first_costs.ensures.here c.first_costs.ensures.elsewhere;
-}
+pub forward-requires-clause-least : goal.forward-requires-clause-least
+forward-requires-clause-least g c = start_leasts _ (g.T.Trellis.lawful c.args.trellis.now) _ c.start.result c.start.ensures c.first_costs.ensures.here c.first_costs.ensures.elsewhere
 
 pub best_end-requires : goal.best_end-requires
 best_end-requires g c =

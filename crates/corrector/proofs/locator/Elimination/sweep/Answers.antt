@@ -1,4 +1,4 @@
-use Rattle.std.proofs.Common.{◌≡◌, ◌+◌, ◌≤◌, ℕ, Bool, List, Option, Some, sym, ◌∙◌, subst, arith}
+use Rattle.std.proofs.Common.{◌+◌, ◌≤◌, ℕ, Bool, List, Option, Some, sym, ◌∙◌, subst, arith}
 use Rattle.outer_theory.proofs.Rows.{Swept}
 use Rattle.outer_theory.proofs.Reduce.{swept_pass, swept_pivot, swept_clear}
 use Rattle.corrector.proofs.locator.Elimination.sweep.Goals as goal
@@ -32,8 +32,3 @@ loop-r-preserved c =
             ]),
       )
     ]
-
-pub returns-clause-swept : goal.returns-clause-swept
-returns-clause-swept c =
-    let e : c.loop-r.r ≡ c.args.equation.now.shape.limit + 1 = omega arith in
-    subst (λ (r : ℕ). Swept c.args.equation.now.shape.limit c.loop-r.self.rows c.loop-r.self.left c.args.equation.now.syndromes c.args.equation.now.first r c.loop-r.pivot) e c.loop-r.invariant.1
