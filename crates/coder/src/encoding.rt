@@ -22,7 +22,7 @@ pub fn burst_bits(
 {
     let burst = Burst::accept(request, payload)?;
     burst.write_sent(sent);
-    Ok(192 * burst.order.profile().bits * burst.order.symbols())
+    Ok(burst.order.points() * burst.order.profile().bits)
 }
 
 // The points of the burst that carries the data. A refusal changes nothing.

@@ -34,9 +34,6 @@ module _ (r : Request) where
   nth_from : (v w : Bytes) (b : ℕ) → ((k : ℕ) → (profiled r).block * b ≤ k → v k ≡ w k) → nth r v b ≡ nth r w b
   nth_from v w b h = listed_same (profiled r).block (λ k. v ((profiled r).block * b + k)) (λ k. w ((profiled r).block * b + k)) (λ k m. h ((profiled r).block * b + k) (omega arith))
 
-  pub blocks_start : (old : Bytes) → BlocksTaken r 0 old old 0
-  blocks_start old = record { taken = λ b h. absurd (omega arith); summed = refl; rest = λ k h. refl }
-
   pub total_same : (n : ℕ) (f g : ℕ → ℕ) → ((k : ℕ) → k < n → f k ≡ g k) → total n f ≡ total n g
   total_same zero f g h = refl
   total_same (suc n) f g h = ap₂ ◌+◌ (total_same n f g (λ k l. h k (omega arith))) (h n (omega arith))

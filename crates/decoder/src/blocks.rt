@@ -11,7 +11,7 @@ use corrector::correct_at;
 use standard::order::{BLOCK_BYTES, Order};
 use standard::refusal::Refusal;
 
-// The blocks of an order, one after another.
+// The blocks of an order, one after another, in a fixed array: the calls have no heap.
 #[derive(Drop)]
 pub(crate) struct Blocks {
     pub(crate) order: Order,

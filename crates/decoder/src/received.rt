@@ -29,6 +29,7 @@ fn pack(bits: &[bool], bytes: &mut [u8])
     requires { 8 * length bytes.old ≤ length bits.now }
     ensures { (i : ℕ) → i < length bytes.old → slice_index bytes.new i ≡ bytewise (flags bits.now) i }
 {
+    // by index: after a `zip` with `iter_mut` a proof knows no element
     for (i, byte) in bytes.iter_mut().enumerate() {
         *byte = number(&bits[8 * i..8 * i + 8]) as u8;
     }
