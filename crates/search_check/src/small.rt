@@ -14,8 +14,8 @@ pub struct Small {
     pub start: usize,
     // the ends are the states below it
     pub ends: usize,
-    // in one row a stage, as entries are counted and found over states and bits in turn; tried as [[[_; 2]; 8]; 8], a
-    // literal of this struct is more than the borrow checker covers
+    // in one row a stage, since entries are counted and found over states and bits in turn: nested by bit, each of these
+    // flattens it first, and a literal of [[[_; 2]; 8]; 8] is more than the borrow checker covers
     pub branches: [[Option<Branch>; 16]; 8],
     pub wanted: bool,
     pub narrow: bool,
