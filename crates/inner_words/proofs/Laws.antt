@@ -5,7 +5,8 @@ use Rattle.std.proofs.lemmas.Bool.{cases_lt}
 use Rattle.words.specs.Words.{Bits, ◌⊻◌, digit}
 use Rattle.words.proofs.Bridge.{digit_lt, eqb_digit}
 use Rattle.paths.specs.Model.{Path, after, Lawful}
-use Rattle.paths.proofs.Paths.{some_inj, came}
+use Rattle.std.proofs.lemmas.Option.{same_Some}
+use Rattle.paths.proofs.Paths.{came}
 use Rattle.inner_words.specs.Receiving.{odd, x_of, y_of, sent, x_heard, y_heard, differs, cost, allowed, receiving}
 use Rattle.inner_words.proofs.Stages.{odd_is}
 use Rattle.inner_words.proofs.Receiving.{is_open, opened}
@@ -82,7 +83,7 @@ module _ (p n : ℕ) (heard : Bits) where
   -- a stage costs at most 2
   cheap : (u : Path) (k t c : ℕ) → after (receiving p n heard) u k ≡ Some (t, c) → c ≤ 2 * k
   unfolding after
-  cheap u zero t c e = let z : ◌≡◌ {A = ℕ} 0 c = ap (λ z. z.1) (some_inj (0, 0) (t, c) e) in omega arith
+  cheap u zero t c e = let z : ◌≡◌ {A = ℕ} 0 c = ap (λ z. z.1) (same_Some (0, 0) (t, c) e) in omega arith
   cheap u (suc k) t c e =
       let a = came (receiving p n heard) u k t c e in
       let i = cheap u k a.s a.d a.at in

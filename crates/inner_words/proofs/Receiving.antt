@@ -8,7 +8,8 @@ use Rattle.inner_code.specs.Inner.{earlier, coded, Rated}
 use Rattle.paths.specs.Model.{after, paid, onward}
 use Rattle.paths.specs.Ties.{state, state_of, First, BitsFirst, lower_bit, same_states, lower_state}
 use Rattle.paths.specs.Answers.{FirstPath, Unreachable}
-use Rattle.paths.proofs.Paths.{some_inj, came}
+use Rattle.std.proofs.lemmas.Option.{same_Some}
+use Rattle.paths.proofs.Paths.{came}
 use Rattle.inner_words.specs.InnerWords.{Tailed, wrong, Nearest}
 use Rattle.inner_words.specs.Receiving.{register, cost, sent, allowed, open_if, receiving}
 use Rattle.inner_words.proofs.Stages.{window, register_lt, odd_is, window_bit, wrongs, stage, start, sent_all}
@@ -173,7 +174,7 @@ nearest p q heard c u r f = (
     tailed = only p (p * q) heard u (p * q) f.arrives.end c f.arrives.stands
 
     count : c ≡ wrong p q u heard
-    count = ap (λ z. z.1) (some_inj (f.arrives.end, c) (register u (p * q), wrong p q u heard) (sym f.arrives.stands ∙ arrives p q heard u r tailed))
+    count = ap (λ z. z.1) (same_Some (f.arrives.end, c) (register u (p * q), wrong p q u heard) (sym f.arrives.stands ∙ arrives p q heard u r tailed))
 
 -- the word of zeros is always open
 pub never_unreachable : (p q : ℕ) (heard : Bits) → Rated p → Unreachable (receiving p (p * q) heard) → ⊥

@@ -7,7 +7,8 @@ use Rattle.paths.specs.Answers.{LeastCost, Unreachable}
 use Rattle.std.specs.Option.{option_map}
 use Rattle.paths.proofs.Rows.{Least, End}
 use Rattle.paths.proofs.Pushed.{Leasts}
-use Rattle.paths.proofs.Paths.{some_inj, after_within, after_cost}
+use Rattle.std.proofs.lemmas.Option.{same_Some}
+use Rattle.paths.proofs.Paths.{after_within, after_cost}
 
 start_at : (m : Model) (x : ℕ) → x ≡ 0 → Least m 0 m.start x
 unfolding after
@@ -20,7 +21,7 @@ start_at m x e = record {
 start_off : (m : Model) (t x : ℕ) → t ≢ m.start → x ≡ 536870912 → Least m 0 t x
 unfolding after
 start_off m t x ne e = record {
-  lower = λ v c h. let p : m.start ≡ t = ap (λ z. z.0) (some_inj (m.start, 0) (t, c) h) in absurd (omega arith);
+  lower = λ v c h. let p : m.start ≡ t = ap (λ z. z.0) (same_Some (m.start, 0) (t, c) h) in absurd (omega arith);
   met = λ lt. absurd (omega arith);
   capped = omega arith;
 }

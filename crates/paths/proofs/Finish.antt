@@ -6,7 +6,8 @@ use Rattle.paths.specs.Model.{Model, Lawful, Path, after}
 use Rattle.paths.specs.Ties.{state_of, First, BitsFirst, same_bits, lower_bit, same_states, lower_state}
 use Rattle.paths.specs.Answers.{path_of, FirstPath, Unreachable, Kept, By, Found}
 use Rattle.paths.proofs.Rows.{trace, Trail, Best, Reached, Room, Below, Chosen, End}
-use Rattle.paths.proofs.Paths.{some_inj, after_same, after_within, after_cost, after_on}
+use Rattle.std.proofs.lemmas.Option.{same_Some}
+use Rattle.paths.proofs.Paths.{after_same, after_within, after_cost, after_on}
 use Rattle.paths.proofs.Entries.{into_sound}
 
 start_first : (m : Model) (w v : Path) → First m w v 0
@@ -25,7 +26,7 @@ start_at m w x e = record {
 start_off : (m : Model) (w : Path) (t x : ℕ) → t ≢ m.start → x ≡ 536870912 → Best m 0 t x w
 unfolding after
 start_off m w t x ne e = record {
-  lower = λ v c h. let p : m.start ≡ t = ap (λ z. z.0) (some_inj (m.start, 0) (t, c) h) in absurd (omega arith);
+  lower = λ v c h. let p : m.start ≡ t = ap (λ z. z.0) (same_Some (m.start, 0) (t, c) h) in absurd (omega arith);
   met = λ lt. absurd (omega arith);
   first = λ lt. absurd (omega arith);
   capped = omega arith;

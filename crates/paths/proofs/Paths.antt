@@ -1,15 +1,13 @@
 -- Paths, one stage at a time.
 -- Assumes nothing.
 use Rattle.std.proofs.Common.{◌≡◌, ℕ, zero, suc, ◌+◌, ◌*◌, ◌<◌, ◌≤◌, Bool, true, false, cond, eqb, ◌⊎◌, Some, None, Option, sym, refl, ap, ◌∙◌, subst, inl, inr, ⊎_elim, eq-or-lt_of_le, arith, eq-eqb, ne_eqb}
+use Rattle.std.proofs.lemmas.Option.{same_Some}
 use Rattle.paths.specs.Model.{Model, Lawful, Path, after, paid, onward}
 use Rattle.paths.specs.Ties.{state_of, First, BitsFirst, same_bits, lower_bit, same_states, lower_state}
 
 -- a path with another bit at stage k
 abbrev pub upd : Path → ℕ → Bool → Path
 upd w k b j = cond (eqb j k) b (w j)
-
-pub some_inj : {X : Type 0} (x y : X) → ◌≡◌ {A = Option X} (Some x) (Some y) → x ≡ y
-some_inj x y h = cc
 
 pub upd_at : (w : Path) (k : ℕ) (b : Bool) → upd w k b k ≡ b
 upd_at w k b = let e : eqb k k ≡ true = eq-eqb k k refl in ap (λ x. cond x b (w k)) e
@@ -44,7 +42,7 @@ pub record Came (m : Model) (v : Path) (k t c : ℕ) : Type 0 where
 came_by : (m : Model) (v : Path) (k t c s d : ℕ) (q : Option (ℕ × ℕ)) → after m v k ≡ Some (s, d) → m.branch k s (v k) ≡ q → paid d q ≡ Some (t, c) → Came m v k t c
 came_by m v k t c s d None a e h = let z : ◌≡◌ {A = ℕ} 0 1 = cc in absurd (omega arith)
 came_by m v k t c s d (Some q) a e h =
-    let p = some_inj (q.0, d + q.1) (t, c) h in
+    let p = same_Some (q.0, d + q.1) (t, c) h in
     let x : q.0 ≡ t = ap (λ z. z.0) p in
     let y : d + q.1 ≡ c = ap (λ z. z.1) p in
     record { s = s; d = d; e = q.1; at = a; step = e ∙ ap (λ n. Some (n, q.1)) x; sum = sym y }
@@ -60,7 +58,7 @@ came m v k t c h = came_at m v k t c (after m v k) refl h
 pub after_within : (m : Model) → Lawful m → (v : Path) (k t c : ℕ) → k ≤ m.stages → after m v k ≡ Some (t, c) → t < m.states
 unfolding after
 after_within m law v zero t c le h =
-    let x : m.start ≡ t = ap (λ z. z.0) (some_inj (m.start, 0) (t, c) h) in
+    let x : m.start ≡ t = ap (λ z. z.0) (same_Some (m.start, 0) (t, c) h) in
     let y = law.start_within in
     omega arith
 after_within m law v (suc k) t c le h =
@@ -71,7 +69,7 @@ after_within m law v (suc k) t c le h =
 -- no stage costs more than 255
 pub after_cost : (m : Model) → Lawful m → (v : Path) (k t c : ℕ) → k ≤ m.stages → after m v k ≡ Some (t, c) → c ≤ 255 * k
 unfolding after
-after_cost m law v zero t c le h = let x : 0 ≡ c = ap (λ z. z.1) (some_inj (m.start, 0) (t, c) h) in omega arith
+after_cost m law v zero t c le h = let x : 0 ≡ c = ap (λ z. z.1) (same_Some (m.start, 0) (t, c) h) in omega arith
 after_cost m law v (suc k) t c le h =
     let r : Came m v k t c = came m v k t c h in
     let w = after_within m law v k r.s r.d (omega arith) r.at in
@@ -115,7 +113,7 @@ first_lower m w v k b l e =
 pub cheap_by : (m : Model) (bound : ℕ → ℕ) → m.start < m.states → ((k s : ℕ) (b : Bool) (t c : ℕ) → k < m.stages → s < m.states → m.branch k s b ≡ Some (t, c) → (t < m.states) × (bound k + c ≤ bound (suc k))) → (p : Path) (k t c : ℕ) → k ≤ m.stages → after m p k ≡ Some (t, c) → (t < m.states) × (c ≤ bound k)
 unfolding after
 cheap_by m bound start step p zero t c le h =
-    let q = some_inj (m.start, 0) (t, c) h in
+    let q = same_Some (m.start, 0) (t, c) h in
     let x : m.start ≡ t = ap (λ z. z.0) q in
     let y : 0 ≡ c = ap (λ z. z.1) q in
     (omega arith, omega arith)

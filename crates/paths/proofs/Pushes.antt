@@ -5,7 +5,8 @@ use Rattle.std.proofs.lemmas.Bool.{cases_order, cases_lt}
 use Rattle.std.proofs.lemmas.List.{set-get_or}
 use Rattle.paths.specs.Model.{Model, Lawful}
 use Rattle.paths.proofs.Pushed.{turn, Source, Partly, Leasts}
-use Rattle.paths.proofs.Paths.{upd, some_inj, Came, came, after_on, after_within}
+use Rattle.std.proofs.lemmas.Option.{same_Some}
+use Rattle.paths.proofs.Paths.{upd, Came, came, after_on, after_within}
 
 turn_inj : (s s' : ℕ) (b b' : Bool) → turn s' b' ≡ turn s b → (s' ≡ s) × (b' ≡ b)
 turn_inj s s' true true e = (omega arith, refl)
@@ -29,7 +30,7 @@ lower_more m k row next s b here old s' b' t c h e =
 -- an open branch has one end and one cost
 one_branch : (next : List ℕ) (x to pay : ℕ) (o : Option (ℕ × ℕ)) → o ≡ Some (to, pay) → get_or next to 0 ≤ x + pay → (t c : ℕ) → o ≡ Some (t, c) → get_or next t 0 ≤ x + c
 one_branch next x to pay o opens le t c e =
-    let q = some_inj (to, pay) (t, c) (sym opens ∙ e) in
+    let q = same_Some (to, pay) (t, c) (sym opens ∙ e) in
     let a : get_or next to 0 ≡ get_or next t 0 = ap (λ z. get_or next z.0 0) q in
     let d : pay ≡ c = ap (λ z. z.1) q in
     omega arith

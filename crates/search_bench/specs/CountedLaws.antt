@@ -3,7 +3,7 @@
 use Rattle.std.specs.Prelude.{◌≡◌, ℕ, ◌≤◌, true, false, cond, List}
 use Rattle.std.proofs.Common.{ap, arith}
 use Rattle.paths.specs.Model.{Lawful}
-use Rattle.paths.proofs.Paths.{some_inj}
+use Rattle.std.proofs.lemmas.Option.{same_Some}
 use Rattle.search_bench.specs.declared.counted.Step.{Step}
 use Rattle.search_bench.specs.Counted.{counted, step, Inside, Small}
 
@@ -16,7 +16,7 @@ counted_lawful stages steps short inside small = record {
   few_states = omega arith;
   start_within = omega arith;
   bounded = λ k s b t c early few e.
-      let q = some_inj _ (t, c) e in
+      let q = same_Some _ (t, c) e in
       let x : (step steps s b).to ≡ t = ap (λ z. z.0) q in
       let y : (step steps s b).cost ≡ c = ap (λ z. z.1) q in
       let i = inside s b in

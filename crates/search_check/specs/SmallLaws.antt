@@ -5,7 +5,8 @@ use Rattle.std.proofs.Common.{sym, ap, subst, ◌∙◌, inl, inr, ⊎_elim, ari
 use Rattle.std.proofs.lemmas.Bool.{cases_lt, eqb-false}
 use Rattle.paths.specs.Model.{Model, Lawful}
 use Rattle.paths.specs.Registers.{digit, open_if}
-use Rattle.paths.proofs.Paths.{some_inj, cheap_by}
+use Rattle.std.proofs.lemmas.Option.{same_Some}
+use Rattle.paths.proofs.Paths.{cheap_by}
 use Rattle.paths.proofs.Registers.{opened, is_open, digit_low}
 use Rattle.search_check.specs.Small.{Cells, Cheap, cell, lead, toll, leads, count, find, as_entry, free, small}
 
@@ -46,7 +47,7 @@ find_sound cells k t i (suc n) j e = by (find_sound cells k t i n j) (leads cell
   where
     by : (find cells k t i n ≡ Some j → At cells k t i n j) → (b : Bool) → (leads cells k t n && count cells k t n == i) ≡ b → cond b (Some n) (find cells k t i n) ≡ Some j → At cells k t i (suc n) j
     by ih true q h =
-        let s : n ≡ j = some_inj n j h in
+        let s : n ≡ j = same_Some n j h in
         let w = both_are _ _ q in
         subst (λ x. At cells k t i (suc n) x) s (record { low = omega arith; there = w.0; nth = eqb-true _ _ w.1 })
     by ih false q h = let r = ih h in record { low = (let l = r.low in omega arith); there = r.there; nth = r.nth }
@@ -123,7 +124,7 @@ module _ (stages n start ends : ℕ) (cells : Cells) (wanted narrow : Bool) (sho
   entry_at : (k t : ℕ) (o : Option ℕ) (s : ℕ) (b : Bool) (c : ℕ) → as_entry cells k o ≡ Some (s, b, c) → (j : ℕ) × (o ≡ Some j) × (j / 2 ≡ s) × ((j % 2 == 1) ≡ b) × (toll (cell cells k j) ≡ c)
   entry_at k t None s b c e = let z : ◌≡◌ {A = ℕ} 0 1 = cc in absurd (omega arith)
   entry_at k t (Some j) s b c e =
-      let q = some_inj (j / 2, (j % 2 == 1), toll (cell cells k j)) (s, b, c) e in
+      let q = same_Some (j / 2, (j % 2 == 1), toll (cell cells k j)) (s, b, c) e in
       (j, refl, ap (λ z. z.0) q, ap (λ z. z.1) q, ap (λ z. z.2) q)
 
   sound : (k t : ℕ) (i : Bool) (s : ℕ) (b : Bool) (c : ℕ) → t < n → model.entry k t i ≡ Some (s, b, c) → (s < n) × (model.branch k s b ≡ Some (t, c))

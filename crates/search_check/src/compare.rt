@@ -12,7 +12,7 @@ pub struct Outcome {
 }
 
 // Searches, and looks at every path: the cost must be the same, and the place for the path what it should be.
-pub fn compare<T: Trellis>(trellis: &T, work: &mut [u64]) -> Outcome {
+pub(crate) fn compare<T: Trellis>(trellis: &T, work: &mut [u64]) -> Outcome {
     // what the place for the path holds before the search
     let mut path: [bool; PATH_BITS] = array::from_fn(|j| j % 3 == 0);
     let mut expected = path;

@@ -88,7 +88,7 @@ impl Case {
 }
 
 // Prints the answers to the example with one thing wrong.
-pub fn show(rt: &HostRuntime) -> anyhow::Result<()> {
+pub(crate) fn show(rt: &HostRuntime) -> anyhow::Result<()> {
     println!(rt; "refusals")?;
     for case in &CASES {
         case.show(rt)?;

@@ -47,7 +47,7 @@ fn mapped(heap: Global) -> anyhow::Result<Vec<Point>> {
 }
 
 // Prints what each step makes of what the step before it made, from the data on.
-pub fn show(rt: &HostRuntime) -> anyhow::Result<()> {
+pub(crate) fn show(rt: &HostRuntime) -> anyhow::Result<()> {
     show_bytes(rt, "data", &DATA)?;
     let scrambled = scrambled();
     show_bytes(rt, "scrambled", &scrambled)?;
