@@ -55,11 +55,10 @@ fn point_at(modulation: Modulation, sent: &[bool], t: usize) -> Point
 {
     let at = modulation.bits() * t;
     let i = axis_at(modulation, sent, at);
-    let q = if has_quadrature(modulation) {
-        axis_at(modulation, sent, at + modulation.axis_bits())
-    } else {
-        0
-    };
+    if !has_quadrature(modulation) {
+        return Point { i, q: 0 };
+    }
+    let q = axis_at(modulation, sent, at + modulation.axis_bits());
     Point { i, q }
 }
 
@@ -91,26 +90,26 @@ pub fn map(modulation: Modulation, sent: &[bool], points: &mut [Point])
 
 // The rank, from the lowest, of the level nearest to `x` among `l` that stand 512 apart. The lowest axis value
 // is 64 steps below zero.
-fn nearest(l: usize, x: i16) -> usize
+fn nearest(l: u32, x: i16) -> u32
     requires some { 0 < l }
     requires few { l ≤ 8 }
     ensures { Ranked l x result }
 {
-    let steps = ((i32::from(x) + 32768) as usize + 256 * l) / 512;
+    let steps = ((i32::from(x) + 32768) as u32 + 256 * l) / 512;
     steps.saturating_sub(64).min(l - 1)
 }
 
 // The bits of the level nearest to `x`; of two equally near, of the greater. Ranks are Gray coded.
-fn decide(modulation: Modulation, x: i16) -> usize
+fn decide(modulation: Modulation, x: i16) -> u8
     ensures { Decided (wide (carrier_bits modulation)) x result }
 {
-    let l = levels(modulation).len();
+    let l = levels(modulation).len() as u32;
     let n = nearest(l, x);
-    l - 1 - (n ^ (n >> 1))
+    (l - 1 - (n ^ (n >> 1))) as u8
 }
 
 // Writes the number as bits, highest first.
-fn write_bits(v: usize, bits: &mut [bool])
+fn write_bits(v: u8, bits: &mut [bool])
     requires short { length bits.old ≤ 3 }
     requires among { v < 2 ^ length bits.old }
     ensures { value (length bits.old) (flags bits.new) ≡ v }

@@ -84,6 +84,10 @@ pub fn correct(block: &mut [u8], shape: Shape, most: usize) -> Option<usize>
     ensures { MatchOption result (Refused shape.size shape.limit most block.old block.new)
         (λ wrong. Corrected shape.size shape.limit most block.old block.new wrong) }
 {
+    // without parity every block is a word
+    if shape.limit == 0 {
+        return Some(0);
+    }
     let given = Block {
         bytes: block,
         shape,

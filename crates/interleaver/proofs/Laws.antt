@@ -1,7 +1,9 @@
 -- The laws of the interleaver as its public functions promise them, and the steps of its loops.
 -- Assumes nothing.
 use mathlib.Core.Path.{◌≡◌, sym, ◌∙◌, ap, subst}
+use mathlib.Core.Logic.{inl, inr, ◌≢◌}
 use Prim.Native.Nat.{ℕ, ◌+◌, ◌-◌, ◌*◌, ◌/◌, ◌%◌, ◌<◌}
+use native.Mathlib.Omega.{arith}
 use native.Mathlib.Nat.{div-add-mod, mod-lt, div-lt_iff_lt-mul, mul_comm}
 use Rattle.words.specs.Words.{Bits}
 use Rattle.standard.specs.Profiles.{Modulation}
@@ -42,3 +44,15 @@ pub placed_by : (s w g c k : ℕ) → s ≡ turn c → w ≡ g * c → 0 < g →
 placed_by s w g c k es ew hg m h =
     subst (λ (x : ℕ). (x * (k % 12) + k / 12) / s * s + (x * (k % 12) + k / 12 + 12 * x - k % 12) % s ≡ place g c k) (sym ew)
     (subst (λ (n : ℕ). (g * c * (k % 12) + k / 12) / s * s + (g * c * (k % 12) + k / 12 + n - k % 12) % s ≡ place g c k) (size_rows g c) (sym (place_at g c (parts c m) hg s k (sym es) h)))
+
+-- where the turn is neither 3 nor 2 it is 1, and nothing is turned
+pub placed_plain : (s w g c k : ℕ) → s ≡ turn c → s ≢ 3 → s ≢ 2 → w ≡ g * c → 0 < g → Modulation c → k < size g c → w * (k % 12) + k / 12 ≡ place g c k
+placed_plain s w g c k es n3 n2 ew hg m h =
+    (let q : w * (k % 12) + k / 12 ≡ (w * (k % 12) + k / 12) / 1 * 1 + (w * (k % 12) + k / 12 + 12 * w - k % 12) % 1 = omega arith in q)
+    ∙ placed_by 1 w g c k (one c m es) ew hg m h
+  where
+    one : (c : ℕ) → Modulation c → s ≡ turn c → 1 ≡ turn c
+    one c (inl e) q = sym (ap turn e)
+    one c (inr (inl e)) q = sym (ap turn e)
+    one c (inr (inr (inl e))) q = absurd (n2 (q ∙ ap turn e))
+    one c (inr (inr (inr e))) q = absurd (n3 (q ∙ ap turn e))

@@ -1,6 +1,6 @@
 -- The blocks of a burst, byte by byte and as outer words.
 -- Assumes nothing.
-use Rattle.std.proofs.Common.{◌≡◌, ℕ, zero, suc, ◌+◌, ◌-◌, ◌*◌, ◌/◌, ◌%◌, ◌<◌, ◌≤◌, List, ◌++◌, length, get_or, take, sym, refl, ap, ◌∙◌, subst, ap₂, add-zero, mod-eq_of_lt, mul_comm, div-lt_iff_lt-mul, mul-le-mul_left, arith}
+use Rattle.std.proofs.Common.{◌≡◌, ℕ, zero, suc, ◌+◌, ◌-◌, ◌*◌, ◌/◌, ◌%◌, ◌<◌, ◌≤◌, List, [], ◌∷◌, ◌++◌, length, get_or, take, sym, refl, ap, ◌∙◌, subst, ap₂, add-zero, mod-eq_of_lt, mul_comm, div-lt_iff_lt-mul, mul-le-mul_left, arith}
 use native.Mathlib.Decide.{dec_le}
 use native.Mathlib.Nat.{mul-add-div, mul-add-mod_self_left, div-eq_of_lt}
 use Rattle.std.proofs.lemmas.List.{length-append, length-take-le, get_or_append_left, get_or-append_right, get_or-take, ext_get_or}
@@ -8,15 +8,25 @@ use Rattle.field.specs.Field.{gexp}
 use Rattle.words.specs.Words.{Bytes, listed, part}
 use Rattle.words.proofs.Bridge.{length_listed, get_or_listed, listed_same}
 use Rattle.outer_code.specs.Outer.{Outer, AreBytes}
-use Rattle.outer_code.specs.Parity.{parity_of}
+use Rattle.outer_code.specs.Parity.{parity_of, next}
 use Rattle.outer_code.specs.Blocks.{block_of, blocks}
-use Rattle.outer_code.proofs.Parity.{length_parity, parity_bytes, encoded, evaluated_zeros}
+use Rattle.outer_code.proofs.Parity.{length_parity, parity_bytes, encoded, evaluated_zeros, parity_more}
 
 -- ---- lists of a word's bytes
+pub listed_more : (n : ℕ) (w : Bytes) → listed (suc n) w ≡ listed n w ++ w n ∷ []
+listed_more zero w = refl
+listed_more (suc n) w = ap (λ (xs : List ℕ). w 0 ∷ xs) (listed_more n (λ k. w (suc k)))
+
 pub listed_bytes : (n : ℕ) (w : Bytes) → ((k : ℕ) → w k < 256) → AreBytes (listed n w)
 listed_bytes zero w h k = omega arith
 listed_bytes (suc n) w h zero = h 0
 listed_bytes (suc n) w h (suc k) = listed_bytes n (λ i. w (suc i)) (λ i. h (suc i)) k
+
+-- the parity of one byte more
+pub parity_part : (n from : ℕ) (w : Bytes) → parity_of (part (n + 1) from w) ≡ next (parity_of (part n from w)) (w (from + n))
+parity_part n from w =
+    ap (λ (m : ℕ). parity_of (part m from w)) (let e : n + 1 ≡ suc n = omega arith in e)
+    ∙ ap parity_of (listed_more n (λ k. w (from + k))) ∙ parity_more (part n from w) (w (from + n))
 
 -- ---- one block
 module _ (limit : ℕ) (few : limit ≤ 8) (d : List ℕ) where
@@ -92,6 +102,9 @@ module _ (size limit : ℕ) (some : 0 < size) where
   pub blocks_message : limit ≤ 8 → (w : Bytes) (b t : ℕ) → t < size → blocks size limit w ((2 * limit + size) * b + (2 * limit + t)) ≡ w (size * b + t)
   blocks_message few w b t h =
       blocks_at w b (2 * limit + t) (omega arith) ∙ block_message limit few (message_of size b w) t ∙ get_or_listed size (λ k. w (size * b + k)) t h
+
+  pub blocks_parity : limit ≤ 8 → (w : Bytes) (b t : ℕ) → t < 2 * limit → blocks size limit w ((2 * limit + size) * b + t) ≡ get_or (parity_of (message_of size b w)) t 0
+  blocks_parity few w b t h = blocks_at w b t (omega arith) ∙ block_parity limit few (message_of size b w) t h
 
   pub blocks_outer : size ≤ 239 → limit ≤ 8 → (w : Bytes) → ((i : ℕ) → w i < 256) → (b : ℕ) → Outer size limit (part (2 * limit + size) ((2 * limit + size) * b) (blocks size limit w))
   blocks_outer hs few w bytes b =

@@ -3,7 +3,7 @@
 use Rattle.std.proofs.Common.{◌≡◌, ℕ, zero, suc, ◌+◌, ◌-◌, ◌*◌, ◌/◌, ◌%◌, ◌<◌, ◌≤◌, List, [], ◌∷◌, get_or, sym, refl, ap, ◌∙◌, ap₂, arith}
 use native.Mathlib.Nat as N
 use Rattle.field.specs.Field.{◌⊕◌, ◌⊗◌, gexp}
-use Rattle.field.proofs.Field.{add_lt, mul_assoc, mul_comm, mul_left_comm, mul_add, mul_one, exp_lt, exp_mul, exp_255, exp_255_more, exp_apart, exp_of_log}
+use Rattle.field.proofs.Field.{add_lt, mul_assoc, mul_comm, mul_left_comm, mul_add, mul_one, mul_lt, exp_lt, exp_mul, exp_255, exp_255_more, exp_apart, exp_of_log}
 use Rattle.field.proofs.Tables.{logarithm}
 use Rattle.field.proofs.Powers.{same_if_zero, exp_zero}
 use Rattle.outer_theory.specs.Syndromes.{weight}
@@ -22,6 +22,11 @@ exp_mod a = sym (exp_turns (a / 255) (a % 255)) ∙ ap gexp (N.mod-add-div' a 25
 unfoldable pub product : ℕ → ℕ
 product zero = 1
 product (suc n) = product n ⊗ (gexp (suc n) ⊕ 1)
+
+pub product_lt : (n : ℕ) → product n < 256
+unfolding product
+product_lt zero = omega arith
+product_lt (suc n) = mul_lt (product n) (gexp (suc n) ⊕ 1)
 
 -- the logarithms of the n products from number i on, of which the first has the logarithm a
 unfoldable pub product_logs : ℕ → ℕ → ℕ → List ℕ

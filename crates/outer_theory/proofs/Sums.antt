@@ -1,6 +1,6 @@
 -- Laws of sums and of counts.
 -- Assumes nothing.
-use Rattle.std.proofs.Common.{◌≡◌, ℕ, zero, suc, ◌+◌, ◌-◌, ◌<◌, ◌≤◌, sym, refl, ap, ◌∙◌, ap₂, le_trans, le_refl, suc-add, arith}
+use Rattle.std.proofs.Common.{◌≡◌, ℕ, zero, suc, ◌+◌, ◌-◌, ◌<◌, ◌≤◌, sym, refl, ap, ◌∙◌, ap₂, le_trans, le_refl, suc-add, add-one, arith}
 use native.Mathlib.Nat.{le_step}
 use native.Mathlib.Decide.{dec_le}
 use native.Mathlib.Nat as N
@@ -148,3 +148,19 @@ count_none zero f h = refl
 count_none (suc n) f h =
     let q : one_if (f n) ≡ 0 = ap one_if (h n (le_refl (suc n))) in
     let p = count_none n f (λ k l. h k (le_step l)) in omega arith
+
+pub count_yes : (n c : ℕ) (f : ℕ → ℕ) → c ≡ count n f → (f n ≡ 0 → ⊥) → c + 1 ≡ count (n + 1) f
+unfolding count
+count_yes n c f e z = ap₂ ◌+◌ e (sym (one (f n) z)) ∙ ap (λ (m : ℕ). count m f) (sym (add-one n))
+  where
+    one : (a : ℕ) → (a ≡ 0 → ⊥) → one_if a ≡ 1
+    one zero h = absurd (h refl)
+    one (suc a) h = refl
+
+pub count_no : (n c : ℕ) (f : ℕ → ℕ) → c ≡ count n f → f n ≡ 0 → c ≡ count (n + 1) f
+unfolding count
+count_no n c f e z = sym (N.add-zero c) ∙ ap₂ ◌+◌ e (sym (ap one_if z)) ∙ ap (λ (m : ℕ). count m f) (sym (add-one n))
+
+pub count_start : (f : ℕ → ℕ) → 0 ≡ count 0 f
+unfolding count
+count_start f = refl

@@ -2,12 +2,12 @@
 -- Assumes nothing.
 use Rattle.std.proofs.Common.{◌≡◌, ℕ, suc, ◌+◌, ◌-◌, ◌%◌, ◌<◌, ◌≤◌, Bool, true, false, eqb, ◌≢◌, List, length, get_or, set, Some, None, Option, sym, refl, ap, ◌∙◌, subst, ⊎_elim, eq-or-lt_of_le, arith, length-set, get_or-set_other, get_or-set_same}
 use lib.Bits.{bit_and}
-use Rattle.std.specs.Prelude.{IsSome, min}
+use Rattle.std.specs.Prelude.{IsSome, IfSome, min}
 use Rattle.std.specs.Option.{option_map}
 use Rattle.std.proofs.lemmas.Nat.{and_mask}
 use Rattle.paths.specs.Model.{Model, Lawful}
 use Rattle.paths.specs.Answers.{Kept}
-use Rattle.paths.proofs.Rows.{into, via, Alike, chosen, follow, Onto, trace, Trail}
+use Rattle.paths.proofs.Rows.{into, via, charge, Alike, Room, chosen, follow, Onto, trace, Trail}
 use Rattle.paths.proofs.Entries.{into_is, into_sound}
 use Rattle.paths.proofs.Paths.{upd_at, upd_off}
 
@@ -31,6 +31,30 @@ module _ (m : Model) (law : Lawful m) (on : m.wanted ≡ true) (k : ℕ) (early 
 -- the candidate that it makes
 pub enters_alike : (m : Model) (k t : ℕ) (i : Bool) (from : ℕ) (bit : Bool) (cost : ℕ) (row : List ℕ) → Some (from, bit, cost) ≡ into m k t i → Alike (get_or row from 0 + cost) (via row (into m k t i))
 enters_alike m k t i from bit cost row is = ap (λ o. min (via row o) 536870912) is
+
+-- what an entry charges that may be none
+pub charge_capped : (m : Model) → Lawful m → m.wanted ≡ true → (k : ℕ) → k < m.stages → (t : ℕ) (i : Bool) → charge (into m k t i) ≤ 536870912
+charge_capped m law on k early t i = go (into m k t i) refl
+  where
+    go : (o : Option (ℕ × Bool × ℕ)) → into m k t i ≡ o → charge o ≤ 536870912
+    go None e = omega arith
+    go (Some (s, b, c)) e = let l = enters_small m law on k early t i s b c (sym e) in omega arith
+
+-- the same of an entry that may be none, from a lane that is its predecessor where there is one
+module _ (m : Model) (k t : ℕ) (i : Bool) (row : List ℕ) (from : ℕ) (named : IfSome (into m k t i) (λ e. from ≡ e.0)) where
+  pub charge_room : (top : ℕ) → Room m k row top → get_or row from 0 < 536870912 → charge (into m k t i) < 536870912 → get_or row from 0 + charge (into m k t i) < top
+  charge_room top room = go (into m k t i) refl named
+    where
+      go : (o : Option (ℕ × Bool × ℕ)) → into m k t i ≡ o → IfSome o (λ e. from ≡ e.0) → get_or row from 0 < 536870912 → charge o < 536870912 → get_or row from 0 + charge o < top
+      go None e n h l = absurd (omega arith)
+      go (Some (s, b, c)) e n h l = subst (λ z. get_or row z 0 < 536870912 → get_or row z 0 + c < top) (sym n) (room.at t i s b c e) h
+
+  pub charge_alike : Alike (get_or row from 0 + charge (into m k t i)) (via row (into m k t i))
+  charge_alike = go (into m k t i) named
+    where
+      go : (o : Option (ℕ × Bool × ℕ)) → IfSome o (λ e. from ≡ e.0) → Alike (get_or row from 0 + charge o) (via row o)
+      go None n = omega arith
+      go (Some e) n = ap (λ (x : ℕ). min (get_or row x 0 + e.2) 536870912) n
 
 -- ---- back along the survivors
 record Back (m : Model) (work : List ℕ) (k t from : ℕ) (bit : Bool) : Type 0 where

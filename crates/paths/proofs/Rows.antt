@@ -15,6 +15,11 @@ abbrev pub via : List ℕ → Option (ℕ × Bool × ℕ) → ℕ
 via row None = 536870912
 via row (Some e) = get_or row e.0 0 + e.2
 
+-- what an entry charges; past any path where there is none
+abbrev pub charge : Option (ℕ × Bool × ℕ) → ℕ
+charge None = 536870912
+charge (Some e) = e.2
+
 -- equal, or both past the cap
 abbrev pub Alike : ℕ → ℕ → Type 0
 Alike x v = min x 536870912 ≡ min v 536870912

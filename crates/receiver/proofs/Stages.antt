@@ -12,8 +12,7 @@ use Rattle.standard.specs.declared.profile.InnerRate.TheVariants.{Half, TwoThird
 use Rattle.inner_code.specs.Inner.{Rated, half, two_thirds, three_quarters, five_sixths}
 use Rattle.inner_code.proofs.Rates.{rated}
 use Rattle.inner_words.specs.Receiving.{sent}
-use Rattle.receiver.specs.declared.kinds.Heard.{Heard}
-use Rattle.receiver.specs.Kinds.{Kinds, unheard, with_output, heard_of, heard_at}
+use Rattle.receiver.specs.Kinds.{Kinds, unheard, with_output, heard_of, heard_at, row_of}
 
 -- what stage i of a period sends: the first both outputs, the others one
 pub first : (r : InnerRate) (heard : Bits) → with_output (with_output unheard (get_or (punctured r) 0 X1) (heard 0)) (get_or (punctured r) 1 X1) (heard 1) ≡ heard_at (period r) heard 0
@@ -70,15 +69,15 @@ module _ {X : Type 0} (a n : ℕ) (xs ys : List X) (d : X) (h : a ≤ length xs)
       ∙ ap (λ (m : ℕ). get_or (ys ++ post_of a n xs) m d) (omega arith) ∙ get_or_append_left ys (post_of a n xs) d k l
 
 -- one period more
-pub more : (r : InnerRate) (p q n m : ℕ) (heard : List Bool) (old new : List Heard) → p ≡ period r → p * q ≤ length old → length new ≡ p → m ≡ p + 1
+pub more : (r : InnerRate) (p q n m : ℕ) (heard : List Bool) (old new : List ℕ) → p ≡ period r → p * q ≤ length old → length new ≡ p → m ≡ p + 1
     → Kinds (period r) (flags (take m (drop (p * q + q) heard))) new (period r) → Kinds p (flags heard) old (p * q) → Kinds p (flags heard) (put_mid (p * q) n old new) (p * (q + 1))
 unfolding heard_at
 more r p q n m heard old new e room long whole is before k l =
     ⊎_elim
-    (λ b. put_before (p * q) n old new unheard room k b ∙ before k b)
+    (λ b. put_before (p * q) n old new 0 room k b ∙ before k b)
     (λ b.
     let w : p * q + (k - p * q) ≡ k = omega arith in
-    subst (λ (z : ℕ). get_or (put_mid (p * q) n old new) z unheard ≡ heard_at p (flags heard) z) w (at (k - p * q) (omega arith)))
+    subst (λ (z : ℕ). get_or (put_mid (p * q) n old new) z 0 ≡ row_of (heard_at p (flags heard) z)) w (at (k - p * q) (omega arith)))
     (cases_lt k (p * q))
   where
     part : Bits
@@ -87,9 +86,9 @@ more r p q n m heard old new e room long whole is before k l =
     same : (j : ℕ) → j ≤ p → part j ≡ flags heard (p * q + q + j)
     same j c = get_or-take m (drop (p * q + q) heard) j false (omega arith) ∙ get_or-drop (p * q + q) heard j false
 
-    at : (i : ℕ) → i < p → get_or (put_mid (p * q) n old new) (p * q + i) unheard ≡ heard_at p (flags heard) (p * q + i)
+    at : (i : ℕ) → i < p → get_or (put_mid (p * q) n old new) (p * q + i) 0 ≡ row_of (heard_at p (flags heard) (p * q + i))
     at i b =
         let s = placed p q i (subst Rated (sym e) (rated r)) b in
-        put_in (p * q) n old new unheard room i (omega arith) ∙ subst (λ (z : ℕ). get_or new i unheard ≡ heard_at z part i) (sym e) (is i (omega arith))
-        ∙ moved (i % p) (sent p i) (p * q + q) part (flags heard) (same (sent p i) s.within) (λ z. same (suc (sent p i)) (let f = s.first z in omega arith))
-        ∙ ap₂ (λ (x y : ℕ). heard_of x (flags heard) y) (sym s.phase) (sym s.bits)
+        put_in (p * q) n old new 0 room i (omega arith) ∙ subst (λ (z : ℕ). get_or new i 0 ≡ row_of (heard_at z part i)) (sym e) (is i (omega arith))
+        ∙ ap row_of (moved (i % p) (sent p i) (p * q + q) part (flags heard) (same (sent p i) s.within) (λ z. same (suc (sent p i)) (let f = s.first z in omega arith)))
+        ∙ ap₂ (λ (x y : ℕ). row_of (heard_of x (flags heard) y)) (sym s.phase) (sym s.bits)

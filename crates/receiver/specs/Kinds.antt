@@ -37,9 +37,13 @@ heard_of i heard j = record { x = x_heard i heard j; y = y_heard i heard j }
 unfoldable pub heard_at : ℕ → Bits → ℕ → Heard
 heard_at p heard k = heard_of (k % p) heard (sent p k)
 
--- the first n stages are filled in, of periods of p
-abbrev pub Kinds : ℕ → Bits → List Heard → ℕ → Type 0
-Kinds p heard stages n = (k : ℕ) → k < n → slice_index_or stages k unheard ≡ heard_at p heard k
+-- the number of its row of costs, which tells it: no two have the same
+abbrev pub row_of : Heard → ℕ
+row_of h = kind h.x h.y
+
+-- the rows of the first n stages are filled in, of periods of p
+abbrev pub Kinds : ℕ → Bits → List ℕ → ℕ → Type 0
+Kinds p heard rows n = (k : ℕ) → k < n → slice_index rows k ≡ row_of (heard_at p heard k)
 
 -- what each window costs where x and y are heard, by its present bit and its register
 abbrev pub Row : List (List ℕ) → Option Bool → Option Bool → Type 0

@@ -15,25 +15,26 @@ pub(crate) struct Heard {
 // What may be heard of an output, by its number.
 const OUTPUTS: [Option<bool>; 3] = [Some(false), Some(true), None];
 
-fn number(heard: Option<bool>) -> usize
+fn number(heard: Option<bool>) -> u8
     ensures is { result ≡ parted heard }
     ensures low { result < 3 }
 {
-    heard.map_or(2, |bit| usize::from(bit))
+    heard.map_or(2, |bit| u8::from(bit))
 }
 
 impl Heard {
     pub(crate) const NONE: Heard = Heard { x: None, y: None };
 
-    // Its place in a table of the nine that there are.
-    pub(crate) fn index(self) -> usize
+    // Its row in a table of the nine that there are, in a byte: with all of it kept for each stage, a call took half as much
+    // stack again.
+    fn index(self) -> u8
         ensures is { result ≡ kind self.x self.y }
         ensures low { result < 9 }
     {
         number(self.x) + 3 * number(self.y)
     }
 
-    // The one at a place of that table.
+    // The one of a row of that table.
     pub(crate) fn at(index: usize) -> Heard
         requires { index < 9 }
         ensures { kind result.x result.y ≡ index }
@@ -61,25 +62,26 @@ impl Heard {
     }
 }
 
-// What was heard of the stages of one period: the first sends both outputs, the others one.
-fn fill_period(rate: InnerRate, heard: &[bool], stages: &mut [Heard])
+// The rows of the stages of one period, by what was heard of them: the first sends both outputs, the others one.
+fn fill_period(rate: InnerRate, heard: &[bool], rows: &mut [u8])
     requires heard { length heard.now ≡ periodic rate + 1 }
-    requires stages { length stages.old ≡ periodic rate }
-    ensures { Kinds (periodic rate) (flags heard.now) stages.new (periodic rate) }
+    requires rows { length rows.old ≡ periodic rate }
+    ensures { Kinds (periodic rate) (flags heard.now) rows.new (periodic rate) }
 {
     let sent = rate.puncturing();
-    stages[0] = Heard::NONE.with(sent[0], heard[0]).with(sent[1], heard[1]);
+    let first = Heard::NONE.with(sent[0], heard[0]).with(sent[1], heard[1]);
+    rows[0] = first.index();
     // by an index, which goes into three slices: after a `zip` with `iter_mut` a proof knows no element
-    for i in 1..stages.len() {
-        stages[i] = Heard::NONE.with(sent[i + 1], heard[i + 1]);
+    for i in 1..rows.len() {
+        rows[i] = Heard::NONE.with(sent[i + 1], heard[i + 1]).index();
     }
 }
 
-// What was heard of every stage. By places and not by `chunks_mut`, after which a proof knows no element.
-pub(crate) fn fill_kinds(rate: InnerRate, periods: usize, heard: &[bool], stages: &mut [Heard])
-    requires room { periodic rate * periods ≤ length stages.old }
+// The rows of every stage. By places and not by `chunks_mut`, after which a proof knows no element.
+pub(crate) fn fill_kinds(rate: InnerRate, periods: usize, heard: &[bool], rows: &mut [u8])
+    requires room { periodic rate * periods ≤ length rows.old }
     requires held { (periodic rate + 1) * periods ≤ length heard.now }
-    ensures { Kinds (periodic rate) (flags heard.now) stages.new (periodic rate * periods) }
+    ensures { Kinds (periodic rate) (flags heard.now) rows.new (periodic rate * periods) }
 {
     let period = rate.period();
     for q in 0..periods {
@@ -87,7 +89,7 @@ pub(crate) fn fill_kinds(rate: InnerRate, periods: usize, heard: &[bool], stages
         fill_period(
             rate,
             &heard[first + q..first + q + period + 1],
-            &mut stages[first..first + period],
+            &mut rows[first..first + period],
         );
     }
 }

@@ -13,7 +13,7 @@ mod costs;
 mod kinds;
 mod receive_trellis;
 
-use crate::kinds::{Heard, fill_kinds};
+use crate::kinds::fill_kinds;
 use crate::receive_trellis::ReceiveTrellis;
 use standard::profile::InnerRate;
 use standard::refusal::Refusal;
@@ -39,14 +39,14 @@ pub fn nearest(
     ensures past { Kept (periodic rate * periods) path.old path.new }
 {
     // a fixed array: the calls have no heap
-    let mut stages = [Heard::NONE; PATH_BITS];
-    fill_kinds(rate, periods, heard, &mut stages);
+    let mut rows = [0; PATH_BITS];
+    fill_kinds(rate, periods, heard, &mut rows);
     let costs = costs::costs();
     let period = rate.period();
     let trellis = ReceiveTrellis {
         period,
         heard,
-        stages: &stages[..period * periods],
+        rows: &rows[..period * periods],
         costs: &costs,
     };
     let Some(wrong) = search(&trellis, work, path)? else {

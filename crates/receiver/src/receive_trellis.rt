@@ -5,7 +5,6 @@ ghost use Rattle.receiver.specs.Kinds.{Costs, Kinds};
 ghost use Rattle.words.specs.Words.{digit, flags};
 
 use crate::costs::Row;
-use crate::kinds::Heard;
 use trellis::{Branch, Entry, Trellis};
 
 // The stages at the end whose bit is 0 in every inner word.
@@ -17,40 +16,40 @@ pub(crate) struct ReceiveTrellis<'a> {
     // for the model alone; kept at run time, since a ghost field states a fact and holds no value
     pub(crate) period: usize,
     pub(crate) heard: &'a [bool],
-    // what of it is each stage's, and what each window costs there
-    pub(crate) stages: &'a [Heard],
+    // for each stage the number of its row of costs, by what was heard of it; and the rows
+    pub(crate) rows: &'a [u8],
     pub(crate) costs: &'a [Row; 9],
-    ghost short: { length stages.now ≤ 7680 },
-    ghost kinded: { Kinds period (flags heard.now) stages.now (length stages.now) },
+    ghost short: { length rows.now ≤ 7680 },
+    ghost kinded: { Kinds period (flags heard.now) rows.now (length rows.now) },
     ghost costed: { Costs costs.now },
 }
 
 impl ReceiveTrellis<'_> {
     // What a bit costs from a register.
     fn cost(&self, stage: usize, register: usize, bit: bool) -> u16
-        requires early { stage < length self.now.stages.now }
+        requires early { stage < length self.now.rows.now }
         requires low { register < 64 }
         ensures { result ≡ costing self.now.period (flags self.now.heard.now) stage (2 * register + digit bit) }
     {
-        self.costs[self.stages[stage].index()][usize::from(bit)][register]
+        self.costs[usize::from(self.rows[stage])][usize::from(bit)][register]
     }
 
     // Bit 1 is closed in the tail.
     fn closes(&self, stage: usize, bit: bool) -> bool
-        requires early { stage < length self.now.stages.now }
-        ensures { result ≡ not (allowed (length self.now.stages.now) stage bit) }
+        requires early { stage < length self.now.rows.now }
+        ensures { result ≡ not (allowed (length self.now.rows.now) stage bit) }
     {
-        bit && self.stages.len() <= stage + TAIL
+        bit && self.rows.len() <= stage + TAIL
     }
 }
 
 impl Trellis for ReceiveTrellis<'_> {
-    ghost model = { λ x. receiving x.period (length x.stages.now) (flags x.heard.now) };
+    ghost model = { λ x. receiving x.period (length x.rows.now) (flags x.heard.now) };
 
-    ghost lawful = { λ x. receiving_lawful x.period (length x.stages.now) (flags x.heard.now) x.short };
+    ghost lawful = { λ x. receiving_lawful x.period (length x.rows.now) (flags x.heard.now) x.short };
 
     fn stages(&self) -> usize {
-        self.stages.len()
+        self.rows.len()
     }
 
     fn states(&self) -> usize {

@@ -1,4 +1,4 @@
-ghost use Rattle.std.specs.Prelude.{◌≡◌, ℕ, ◌*◌, ◌/◌, ◌≤◌, ◌++◌, length, IfOk, OnOk, Some, string_bytes, codes};
+ghost use Rattle.std.specs.Prelude.{◌≡◌, ℕ, ◌*◌, ◌/◌, ◌≤◌, ◌++◌, length, IfOk, OnErr, OnOk, Some, string_bytes, codes};
 ghost use Rattle.records.specs.Answers.{line_of_burst, line, newline, text as texted, used};
 ghost use Rattle.records.specs.Lines.{begun, hex};
 ghost use Rattle.records.specs.Records.{head, place_of, read_as};
@@ -76,7 +76,8 @@ impl Record<'_> {
     }
 }
 
-// Writes the line of the record that begins at a place, and says how many bytes it takes; none where the program stops.
+// Adds the line of the record that begins at a place, and says how many bytes it takes; none where the program stops. The
+// line is made apart, so that a failed allocation leaves the text as it was.
 pub fn answer_record(
     text: &mut String,
     place: usize,
@@ -84,17 +85,21 @@ pub fn answer_record(
 ) -> Result<Option<usize>, AllocError>
     ensures line { OnOk result (string_bytes text.new ≡ string_bytes text.old ++ line place (head rest.now)) }
     ensures used { IfOk result (λ bytes. bytes ≡ used (head rest.now)) }
+    ensures kept { OnErr result (string_bytes text.new ≡ string_bytes text.old) }
 {
-    match Record::read(place, rest) {
+    let mut line = String::new(*text.allocator());
+    let bytes = match Record::read(place, rest) {
         Ok(record) => {
-            record.answer(text)?;
-            Ok(Some(record.bytes()))
+            record.answer(&mut line)?;
+            Some(record.bytes())
         }
         Err(fault) => {
-            fault.answer(text)?;
-            Ok(None)
+            fault.answer(&mut line)?;
+            None
         }
-    }
+    };
+    text.push_str(&line)?;
+    Ok(bytes)
 }
 
 // The text that answers an input, a line for each record.

@@ -3,7 +3,7 @@
 use mathlib.Core.Path.{◌≡◌, refl, sym, ◌∙◌, ap, ap₂}
 use mathlib.Core.Bool.{Bool, true, false}
 use mathlib.Core.List.{List}
-use Prim.Native.Nat.{ℕ, zero, suc, ◌+◌, ◌*◌, ◌/◌, ◌%◌, ◌<◌, ◌≤◌}
+use Prim.Native.Nat.{ℕ, zero, suc, ◌+◌, ◌*◌, ◌/◌, ◌%◌, ◌^◌, ◌<◌, ◌≤◌}
 use native.Mathlib.Omega.{arith}
 use native.Mathlib.Nat.{add-zero, add-suc, div-one}
 use native.Mathlib.Decide.{ℕ_discrete}
@@ -12,15 +12,31 @@ use lib.Bits.{bit_xor}
 use lib.ListN.{length, get_or, set}
 use lib.Seq.{get_or-set_same, get_or-set_other}
 use Rattle.words.specs.Words.{Bytes, word, ◌⊻◌, digit, bits, bytes}
-use Rattle.words.proofs.Bridge.{digit_xor, eqb_digit, value_below, value_same, value_xor, bits_bytes, bytes_bits, bits_same}
+use Rattle.words.proofs.Bridge.{digit_lt, digit_xor, eqb_digit, value_below, value_same, value_xor, bits_bytes, bytes_bits, bits_same}
 use Rattle.scrambler.specs.Scrambler.{fresh, pushed, after, scrambled}
 use Rattle.scrambler.specs.Eight.{key}
+
+pub key_lt : (k r : ℕ) → key k r < 2 ^ k
+unfolding key
+key_lt k r = value_below k (λ t. fresh (after t r))
+
+pub fresh_lt : (r : ℕ) → digit (fresh r) < 2
+fresh_lt r = digit_lt (fresh r)
 
 pub fresh_is : (r : ℕ) → digit (fresh r) ≡ bit_xor (r / 2 % 2) (r % 2)
 unfolding fresh
 fresh_is r =
     digit_xor (eqb (r / 2 % 2) 1) (eqb (r / 1 % 2) 1)
     ∙ ap₂ bit_xor (eqb_digit (r / 2 % 2) (omega arith)) (eqb_digit (r / 1 % 2) (omega arith) ∙ ap (λ (x : ℕ). x % 2) (div-one r))
+
+pub pushed_lt : (r : ℕ) → r < 2 ^ 15 → pushed r < 2 ^ 15
+unfolding pushed
+pushed_lt r h = let f = fresh_lt r in omega arith
+
+pub after_lt : (k r : ℕ) → r < 2 ^ 15 → after k r < 2 ^ 15
+unfolding after
+after_lt zero r h = h
+after_lt (suc k) r h = pushed_lt (after k r) (after_lt k r h)
 
 pub after_add : (j k r : ℕ) → after j (after k r) ≡ after (k + j) r
 unfolding after

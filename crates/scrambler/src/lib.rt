@@ -25,7 +25,7 @@ impl Model for Register {
 }
 
 impl From<Register> for u16 {
-    ghost from_gives = { λ r n. n ≡ r };
+    ghost from_gives = { λ r n. (n ≡ r) × (n < 2 ^ 15) };
 
     fn from(register: Register) -> u16 {
         register.stages
@@ -45,7 +45,8 @@ impl Register {
         requires bsid { bsid ≤ 15 }
         requires uiuc { uiuc ≤ 15 }
         requires frame { frame ≤ 15 }
-        ensures { result ≡ started bsid uiuc frame }
+        ensures value { result ≡ started bsid uiuc frame }
+        ensures below { result < 2 ^ 15 }
     {
         Register {
             stages: bsid as u16 * 2048 + 1536 + uiuc as u16 * 32 + 16 + frame as u16,
@@ -68,8 +69,11 @@ impl Register {
     pub fn scramble(self, bytes: &mut [u8]) -> Register
         ensures bytes { (i : ℕ) → i < length bytes.old → get_or bytes.new i 0 ≡ scrambled self (word bytes.old) i }
         ensures register { result ≡ after (8 * length bytes.old) self }
+        ensures below { result < 2 ^ 15 }
         ensures undone { (i : ℕ) → i < length bytes.old → scrambled self (word bytes.new) i ≡ get_or bytes.old i 0 }
     {
+        // read, so that the proof has the invariant of the type at hand
+        let _ = &self.stages;
         let mut left = self;
         for byte in bytes.iter_mut() {
             let (key, next) = left.eight();

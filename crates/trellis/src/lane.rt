@@ -29,15 +29,20 @@ pub(crate) trait Lane: Copy {
     fn none() -> Self
         ensures { value result ≡ NO_PATH };
 
+    // What an entry charges.
+    fn of(cost: u16) -> Self
+        requires { cost ≤ 255 }
+        ensures { value result ≡ cost };
+
     // A row where no path has come anywhere.
     fn blank() -> Row<Self>
         ensures { (t : ℕ) → t < LANES → slice_index (values value result) t ≡ NO_PATH };
 
-    fn plus(self, cost: u16) -> Self
+    fn plus(self, more: Self) -> Self
         requires capped { value self ≤ NO_PATH }
-        requires small { cost ≤ 255 }
-        requires room { value self < NO_PATH → value self + cost < top }
-        ensures { Alike (value result) (value self + cost) };
+        requires more { value more ≤ NO_PATH }
+        requires room { value self < NO_PATH → value more < NO_PATH → value self + value more < top }
+        ensures { Alike (value result) (value self + value more) };
 
     // Of sixteen lanes from `at` on, the less of each pair of candidates into `next`; a bit of the answer is set where
     // that is the second.
@@ -76,12 +81,16 @@ impl Lane for u16 {
         u16::MAX
     }
 
+    fn of(cost: u16) -> u16 {
+        cost
+    }
+
     fn blank() -> Row<u16> {
         [u16::MAX; LANES]
     }
 
-    fn plus(self, cost: u16) -> u16 {
-        self.saturating_add(cost)
+    fn plus(self, more: u16) -> u16 {
+        self.saturating_add(more)
     }
 
     fn select_chunk(a: &Row<u16>, b: &Row<u16>, next: &mut Row<u16>, at: usize) -> u64 {
@@ -114,12 +123,16 @@ impl Lane for u32 {
         NO_PATH as u32
     }
 
+    fn of(cost: u16) -> u32 {
+        u32::from(cost)
+    }
+
     fn blank() -> Row<u32> {
         [NO_PATH as u32; LANES]
     }
 
-    fn plus(self, cost: u16) -> u32 {
-        self + u32::from(cost)
+    fn plus(self, more: u32) -> u32 {
+        self + more
     }
 
     fn select_chunk(a: &Row<u32>, b: &Row<u32>, next: &mut Row<u32>, at: usize) -> u64 {

@@ -1,7 +1,7 @@
-ghost use Rattle.std.specs.Prelude.{◌≡◌, ℕ, ◌+◌, ◌*◌, ◌/◌, ◌<◌, ◌≤◌, true, false, length, slice_index, slice_index_or};
+ghost use Rattle.std.specs.Prelude.{◌≡◌, ℕ, ◌+◌, ◌*◌, ◌/◌, ◌<◌, ◌≤◌, true, false, length, IfSome, slice_index, slice_index_or};
 ghost use Rattle.std.specs.Option.{option_map};
 ghost use Rattle.paths.proofs.Lanes.{values};
-ghost use Rattle.paths.proofs.Rows.{Alike, Below, Candidates, Capped, Reached, Room, Trail, into, trace, via};
+ghost use Rattle.paths.proofs.Rows.{Alike, Below, Candidates, Capped, charge as charging, Reached, Room, Trail, into, trace, via};
 ghost use Rattle.paths.specs.Answers.{Found, Kept};
 
 use crate::ends::best_end;
@@ -34,13 +34,54 @@ impl<T: Trellis, L: Lane> Stage<'_, T, L> {
         }
     }
 
-    // The cost of the best path by one entry of a lane.
-    fn candidate(&self, t: usize, second: bool) -> L
+    // The predecessor by an entry of a lane, where the trellis tells it.
+    fn predecessor(&self, t: usize, second: bool) -> Option<usize>
+        ensures within { IfSome result (λ from. from < LANES) }
+        ensures named { IfSome result (λ from. IfSome (into (T.model self.now.trellis.now) self.now.k t second) (λ e. from ≡ e.0)) }
+    {
+        if t < self.trellis.states() {
+            self.trellis.predecessor(self.k, t, second)
+        } else {
+            None
+        }
+    }
+
+    // What an entry of a lane charges; past any path where there is none.
+    fn charge(&self, t: usize, second: bool) -> L
+        ensures { L.Lane.value result ≡ charging (into (T.model self.now.trellis.now) self.now.k t second) }
+    {
+        match self.entry(t, second) {
+            None => L::none(),
+            Some(e) => L::of(e.cost),
+        }
+    }
+
+    // The cost of the best path by one entry of a lane, from its predecessor. The row is read and the sum made whether or not
+    // the entry is open, so that all lanes go into vectors.
+    fn through(&self, from: usize, t: usize, second: bool) -> L
+        requires within { from < LANES }
+        requires named { IfSome (into (T.model self.now.trellis.now) self.now.k t second) (λ e. from ≡ e.0) }
+        ensures { Alike (L.Lane.value result) (via (values L.Lane.value self.now.row.now) (into (T.model self.now.trellis.now) self.now.k t second)) }
+    {
+        self.row[from].plus(self.charge(t, second))
+    }
+
+    // The same where only the entry tells the predecessor.
+    fn by_entry(&self, t: usize, second: bool) -> L
         ensures { Alike (L.Lane.value result) (via (values L.Lane.value self.now.row.now) (into (T.model self.now.trellis.now) self.now.k t second)) }
     {
         match self.entry(t, second) {
             None => L::none(),
-            Some(e) => self.row[e.from].plus(e.cost),
+            Some(e) => self.row[e.from].plus(L::of(e.cost)),
+        }
+    }
+
+    fn candidate(&self, t: usize, second: bool) -> L
+        ensures { Alike (L.Lane.value result) (via (values L.Lane.value self.now.row.now) (into (T.model self.now.trellis.now) self.now.k t second)) }
+    {
+        match self.predecessor(t, second) {
+            None => self.by_entry(t, second),
+            Some(from) => self.through(from, t, second),
         }
     }
 

@@ -1,4 +1,4 @@
-ghost use Rattle.std.specs.Prelude.{◌≡◌, ◌<◌, true};
+ghost use Rattle.std.specs.Prelude.{◌≡◌, ◌<◌, true, IfSome};
 ghost use Rattle.std.specs.Option.{option_map};
 ghost use Rattle.paths.specs.Model.{Lawful, Model};
 
@@ -66,4 +66,16 @@ pub trait Trellis {
         requires early { stage < (model self.now).stages }
         requires low { state < (model self.now).states }
         ensures { option_map (λ e. (e.from, e.bit, e.cost)) result ≡ (model self.now).entry stage state second };
+
+    // The predecessor that the entry names if it is open, of a trellis that can tell it without asking for that; `None` if it
+    // cannot. Where it is told no closed entry makes the search jump, which else takes ten times as long and more where
+    // entries close here and there.
+    fn predecessor(&self, stage: usize, state: usize, second: bool) -> Option<usize>
+        requires early { stage < (model self.now).stages }
+        requires low { state < (model self.now).states }
+        ensures within { IfSome result (λ from. from < (model self.now).states) }
+        ensures named { IfSome result (λ from. IfSome ((model self.now).entry stage state second) (λ e. from ≡ e.0)) }
+    {
+        None
+    }
 }

@@ -90,6 +90,9 @@ value_of (suc n) x h =
         ∙ halved x (n - 1 - t)
 
 -- ---- bytes
+pub byte_lt : (u : Bits) (i : ℕ) → bytes u i < 256
+byte_lt u i = value_below 8 (λ t. u (8 * i + t))
+
 pub bits_bytes : (u : Bits) (k : ℕ) → bits (bytes u) k ≡ u k
 bits_bytes u k =
     ap (λ (x : ℕ). eqb x 1) (value_bit 8 (7 - k % 8) (λ t. u (8 * (k / 8) + t)) (omega arith))

@@ -9,10 +9,10 @@ use Rattle.constellation.proofs.decide.Goals as goal
 pub overflow_sub-result-2 : goal.overflow_sub-result-2
 overflow_sub-result-2 c =
     let m = carrier_bits c.args.modulation in
-    code_below (width m) _ _ c.nearest-n.result (width_of m (modulated c.args.modulation)) c.levels-l.ensures.count c.nearest-n.ensures
+    code_below (width m) _ _ c.nearest-n.result (width_of m (modulated c.args.modulation)) c.levels.ensures.count c.nearest-n.ensures
 
 pub returns : goal.returns
 returns c =
     let m = carrier_bits c.args.modulation in
     let f = c.ranges.x in
-    decided_code (width m) _ c.args.x c.nearest-n.result (width_of m (modulated c.args.modulation)) c.levels-l.ensures.count (simp to_z-of_z at c.nearest-n.ensures)
+    decided_code (width m) _ c.args.x c.nearest-n.result (width_of m (modulated c.args.modulation)) c.levels.ensures.count (simp to_z-of_z at c.nearest-n.ensures)

@@ -6,8 +6,8 @@ use Rattle.standard.specs.Modulations.{carrier_bits}
 use Rattle.constellation.proofs.Mapping.{point_by}
 use Rattle.constellation.proofs.point_at.Goals as goal
 
-pub returns-then-has_quadrature : goal.returns-then-has_quadrature
-returns-then-has_quadrature c =
+pub returns : goal.returns
+returns c =
     let m : ℕ = carrier_bits c.args.modulation in
     let f : SFits w16 c.axis_at-i.result = search rules in
     let g : SFits w16 c.axis_at-q.result = search rules in

@@ -14,3 +14,9 @@ returns-then-all_zero c =
     clean c.args.shape.size c.args.shape.limit c.args.most c.args.shape.few c.args.shape.short c.requires.within c.args.block.now c.requires.long b
     (λ j l. sym (c.syndromes-given.ensures j l) ∙ sym (get_or-take c.parity.result c.syndromes-given.result j 0 (omega arith))
     ∙ c.all_zero.ensures.yes c.if-all_zero.true j (omega arith))
+
+pub returns-then-shape-eq0 : goal.returns-then-shape-eq0
+returns-then-shape-eq0 c =
+    let b : AreBytes c.args.block.now = search rules in
+    clean c.args.shape.size c.args.shape.limit c.args.most c.args.shape.few c.args.shape.short c.requires.within c.args.block.now c.requires.long b
+    (λ j l. absurd (omega arith))

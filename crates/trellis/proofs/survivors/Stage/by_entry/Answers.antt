@@ -3,7 +3,7 @@ use Rattle.paths.proofs.Backs.{enters_lane, enters_small, enters_alike}
 use Rattle.paths.proofs.Lanes.{values}
 use Rattle.paths.proofs.Rows.{via, Alike, into}
 use Rattle.paths.proofs.Values.{get_or_values}
-use Rattle.trellis.proofs.survivors.Stage.candidate.Goals as goal
+use Rattle.trellis.proofs.survivors.Stage.by_entry.Goals as goal
 
 pub offset_bounds-self-e : goal.offset_bounds-self-e
 offset_bounds-self-e g c =
@@ -24,8 +24,8 @@ plus-requires g c =
     let e = get_or_values g.L.Lane.value c.args.self.now.row.now c.in-Some.e.from c.index-self-e.result (omega arith) in
     record {
       capped = subst (λ n. n ≤ 536870912) e (c.args.self.now.capped c.in-Some.e.from lt);
-      small = enters_small _ law c.args.self.now.on _ c.args.self.now.early _ _ _ _ _ c.in-Some.ensures;
-      room = subst (λ n. n < 536870912 → n + c.in-Some.e.cost < g.L.Lane.top) e (c.args.self.now.room.at _ _ _ _ _ (sym c.in-Some.ensures));
+      more = let s = enters_small _ law c.args.self.now.on _ c.args.self.now.early _ _ _ _ _ c.in-Some.ensures in let q = c.of.ensures in omega arith;
+      room = rw c.of.ensures (λ h l. subst (λ n. n < 536870912 → n + c.in-Some.e.cost < g.L.Lane.top) e (c.args.self.now.room.at _ _ _ _ _ (sym c.in-Some.ensures)) h);
     }
 
 pub returns-in-Some : goal.returns-in-Some
@@ -36,4 +36,7 @@ returns-in-Some g c =
     let row = values g.L.Lane.value c.args.self.now.row.now in
     let m = g.T.Trellis.model c.args.self.now.trellis.now in
     let e = get_or_values g.L.Lane.value c.args.self.now.row.now c.in-Some.e.from c.index-self-e.result (omega arith) in
-    c.plus.ensures ∙ subst (λ n. Alike (n + c.in-Some.e.cost) (via row (into m c.args.self.now.k c.args.t c.args.second))) e (enters_alike m _ _ _ _ _ _ row c.in-Some.ensures)
+    c.plus.ensures ∙ rw c.of.ensures (subst (λ n. Alike (n + c.in-Some.e.cost) (via row (into m c.args.self.now.k c.args.t c.args.second))) e (enters_alike m _ _ _ _ _ _ row c.in-Some.ensures))
+
+pub of-requires : goal.of-requires
+of-requires g c = enters_small _ (g.T.Trellis.lawful c.args.self.now.trellis.now) c.args.self.now.on _ c.args.self.now.early _ _ _ _ _ c.in-Some.ensures
