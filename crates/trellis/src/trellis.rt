@@ -68,8 +68,8 @@ pub trait Trellis {
         ensures { option_map (λ e. (e.from, e.bit, e.cost)) result ≡ (model self.now).entry stage state second };
 
     // The predecessor that the entry names if it is open, of a trellis that can tell it without asking for that; `None` if it
-    // cannot. Where it is told no closed entry makes the search jump, which else takes ten times as long and more where
-    // entries close here and there.
+    // cannot. Where it is told no entry makes the search jump, which else takes up to 34 times as long in 16 bits, and 4 in 32,
+    // where a table says which entries close.
     fn predecessor(&self, stage: usize, state: usize, second: bool) -> Option<usize>
         requires early { stage < (model self.now).stages }
         requires low { state < (model self.now).states }
